@@ -7,10 +7,10 @@ use Rattle.std.proofs.lemmas.Option.{slice_get_within, slice_get_read, get_or_fr
 use Rattle.task_set.specs.TaskSet.{TaskData}
 use Rattle.task_set.specs.Context.{fresh_context}
 use Rattle.strong_apa.specs.declared.reply.Entry.{Entry}
-use Rattle.strong_apa.specs.State.{State, start_of, task_count}
+use Rattle.strong_apa.specs.State.{State, IsState, start_of, task_count}
 use Rattle.strong_apa.specs.History.{effect_of, state_after}
 use Rattle.strong_apa.proofs.Histories.{state_after-push}
-use Rattle.reach_certificate.specs.Checker.{CheckerData}
+use Rattle.reach_certificate.specs.Checker.{CheckerData, IsChecker}
 use Rattle.reach_certificate.specs.Contexts.{EachBecomes, context_after_entry}
 use Rattle.reach_certificate.specs.Defect.{IsDefect, number_of}
 use Rattle.strong_apa.specs.Passing.{Passes, IsPassingFrom}
@@ -18,6 +18,7 @@ use Rattle.strong_apa.specs.Step.{IsEventFor}
 use Rattle.reach_certificate.specs.declared.defect.Defect.{Defect}
 use Rattle.reach_certificate.proofs.ContextsFollow.{contexts-follow}
 use Rattle.strong_apa.proofs.SameTasks.{same_tasks-history}
+use Rattle.schedule_picture.specs.History.{AreLinksAfter}
 use Rattle.schedule_text.specs.Schedule.{ScheduleData, IsSchedule, IsScheduled}
 use Rattle.commands.specs.Valid.{HasBadEntry, entry_line_number}
 use Rattle.commands.specs.Checking.{HasFollowed}
@@ -29,20 +30,23 @@ IsPassingFrom-push s (first ∷ rest) entry passing passes = (passing.0, IsPassi
 
 -- before any entry
 pub followed_start : (schedule : ScheduleData) (checker : CheckerData) → checker.links ≡ start_of schedule.set
-    → checker.contexts ≡ map fresh_context (range_with_len 0 (task_count (start_of schedule.set))) → HasFollowed schedule 0 checker
-followed_start schedule checker links contexts = record {
+    → checker.contexts ≡ map fresh_context (range_with_len 0 (task_count (start_of schedule.set))) → IsChecker checker
+    → HasFollowed schedule 0 checker
+followed_start schedule checker links contexts valid = record {
   passing = tt;
   links = links;
   contexts = contexts ∙ ap (λ (n : ℕ). map fresh_context (range_with_len 0 n))
       (length-map schedule.set.tasks (λ (task : TaskData). task.priority));
+  valid = valid;
 }
 
 -- one entry more, which passes
 pub followed_more : (schedule : ScheduleData) (n : ℕ) (entry : Entry) (checker new : CheckerData)
     → slice_get schedule.entries n ≡ Some entry → HasFollowed schedule n checker → Passes checker.links entry.event entry.reply
     → new.links ≡ effect_of checker.links entry
-    → EachBecomes (context_after_entry checker.links new.links entry.event) checker.contexts new.contexts → HasFollowed schedule (n + 1) new
-followed_more schedule n entry checker new there followed passes links contexts =
+    → EachBecomes (context_after_entry checker.links new.links entry.event) checker.contexts new.contexts → IsChecker new
+    → HasFollowed schedule (n + 1) new
+followed_more schedule n entry checker new there followed passes links contexts valid =
     let start = start_of schedule.set in
     let earlier : List Entry = take n schedule.entries in
     let next : take (n + 1) schedule.entries ≡ earlier ++ entry
@@ -58,7 +62,19 @@ followed_more schedule n entry checker new there followed passes links contexts 
       links = rw next (links_there ∙ sym (state_after-push start earlier entry));
       contexts = rw next (contexts-follow start earlier entry (length schedule.set.tasks) checker.contexts new.contexts followed.contexts
           contexts_there);
+      valid = valid;
     }
+
+-- the links after it, as a witness sees them
+pub links_after : (schedule : ScheduleData) (n : ℕ) (entry : Entry) (checker new : CheckerData) (seen : State) → IsSchedule schedule
+    → slice_get schedule.entries n ≡ Some entry → HasFollowed schedule n checker → HasFollowed schedule (n + 1) new → seen ≡ new.links
+    → AreLinksAfter schedule.set schedule.entries n entry seen
+links_after schedule n entry checker new seen ok there followed more same = record {
+  few = ok.few;
+  there = there;
+  before = subst IsState followed.links followed.valid.state;
+  after = same ∙ more.links;
+}
 
 -- one entry that does not pass
 pub bad_entry : (schedule : ScheduleData) (n number defect : ℕ) (which : Defect) (entry : Entry) (checker : CheckerData)

@@ -3,7 +3,7 @@
 use Rattle.strong_apa.specs.Dispatch.{contexts_of}
 use Rattle.std.specs.Prelude.{◌≡◌, ℕ, take}
 use Rattle.strong_apa.specs.History.{state_at}
-use Rattle.reach_certificate.specs.Checker.{CheckerData}
+use Rattle.reach_certificate.specs.Checker.{CheckerData, IsChecker}
 use Rattle.strong_apa.specs.Passing.{IsPassing}
 use Rattle.schedule_text.specs.Schedule.{ScheduleData}
 use Rattle.commands.specs.Valid.{HasBadEntry, HasBadContext, IsInvalid}
@@ -15,6 +15,7 @@ pub record HasFollowed (schedule : ScheduleData) (n : ℕ) (checker : CheckerDat
   pub passing : IsPassing schedule.set (take n schedule.entries)
   pub links : checker.links ≡ state_at schedule.set schedule.entries n
   pub contexts : checker.contexts ≡ contexts_of schedule.set (take n schedule.entries)
+  pub valid : IsChecker checker
 
 -- the answer for the first entry that has a defect
 abbrev pub IsBadEntryStatus : ScheduleData → Status → Type 0

@@ -7,6 +7,7 @@ ghost use Rattle.commands.specs.Check.{IsCheckOf, RefusesCheck, valid_text};
 ghost use Rattle.commands.specs.Checking.{HasFollowed, IsBadEntryStatus, IsBadContextStatus, IsInvalidStatus};
 
 use crate::status::Status;
+use crate::witness::{Nobody, Witness};
 use affinity_mask::OutOfMemory;
 use reach_certificate::Checker;
 use schedule_text::{Schedule, read_schedule};
@@ -32,42 +33,67 @@ fn judged_text(alloc: Global, schedule: &Schedule) -> Result<Vec<u8>, Status>
     ensures refused { IfErr result (λ status.
         IsInvalidStatus schedule.now status ⊎ (status ≡ Status.OutOfMemory)) }
 {
-    judge(alloc, schedule)?;
+    judge(alloc, schedule, &mut Nobody)?;
     let text = write_valid(alloc, schedule.entries().len())?;
     Ok(text)
 }
 
-/// Judges each entry of a schedule, and then each context. Refused with the first that is wrong, or where memory is out.
-pub(crate) fn judge(alloc: Global, schedule: &Schedule) -> Result<(), Status>
+/// Judges each entry of a schedule, shows a witness the links after it, and then judges each context. Refused with the first
+/// that is wrong, or where memory is out.
+pub(crate) fn judge<W: Witness>(
+    alloc: Global,
+    schedule: &Schedule,
+    witness: &mut W,
+) -> Result<(), Status>
+    requires { W.has_seen schedule.now.set schedule.now.entries 0 witness.old }
     ensures valid { OnOk result (IsValid schedule.now) }
+    ensures seen { OnOk result (W.has_seen schedule.now.set schedule.now.entries
+        (length schedule.now.entries) witness.new) }
     ensures refused { IfErr result (λ status.
         IsInvalidStatus schedule.now status ⊎ (status ≡ Status.OutOfMemory)) }
 {
     let mut checker = Checker::new(alloc, schedule.set())?;
-    judge_by(&mut checker, schedule)
+    judge_by(&mut checker, schedule, witness)
 }
 
 /// The same by a checker that accepted no entry yet.
-fn judge_by(checker: &mut Checker, schedule: &Schedule) -> Result<(), Status>
-    requires { HasFollowed schedule.now 0 checker.old }
+fn judge_by<W: Witness>(
+    checker: &mut Checker,
+    schedule: &Schedule,
+    witness: &mut W,
+) -> Result<(), Status>
+    requires followed { HasFollowed schedule.now 0 checker.old }
+    requires seen { W.has_seen schedule.now.set schedule.now.entries 0 witness.old }
     ensures valid { OnOk result (IsValid schedule.now) }
+    ensures seen { OnOk result (W.has_seen schedule.now.set schedule.now.entries
+        (length schedule.now.entries) witness.new) }
     ensures refused { IfErr result (IsInvalidStatus schedule.now) }
 {
-    accept_entries(checker, schedule)?;
+    accept_entries(checker, schedule, witness)?;
     compare_contexts(schedule, checker)
 }
 
-/// Judges each entry of a schedule. Refused with the first that is wrong.
-fn accept_entries(checker: &mut Checker, schedule: &Schedule) -> Result<(), Status>
-    requires { HasFollowed schedule.now 0 checker.old }
+/// Judges each entry of a schedule, and shows the links after it. Refused with the first that is wrong.
+fn accept_entries<W: Witness>(
+    checker: &mut Checker,
+    schedule: &Schedule,
+    witness: &mut W,
+) -> Result<(), Status>
+    requires followed { HasFollowed schedule.now 0 checker.old }
+    requires seen { W.has_seen schedule.now.set schedule.now.entries 0 witness.old }
     ensures followed { OnOk result
         (HasFollowed schedule.now (length schedule.now.entries) checker.new) }
+    ensures seen { OnOk result (W.has_seen schedule.now.set schedule.now.entries
+        (length schedule.now.entries) witness.new) }
     ensures refused { IfErr result (IsBadEntryStatus schedule.now) }
 {
     let mut line = u64::from(schedule.set().len()) + 4;
     for entry in schedule.entries() {
         match checker.accept(entry) {
-            Ok(()) => line += 1,
+            Ok(()) => {
+                witness.see(checker.links(), entry);
+                line += 1;
+            }
             Err(defect) => {
                 return Err(Status::Invalid {
                     line,

@@ -8,8 +8,8 @@ ghost use Rattle.commands.specs.Check.{RefusesCheck};
 ghost use Rattle.commands.specs.Checking.{IsInvalidStatus};
 ghost use Rattle.commands.specs.Chrome.{IsChromeOf};
 
-use crate::check::judge;
 use crate::status::Status;
+use crate::witness::judged_tracks;
 use schedule_picture::chrome_text;
 use schedule_text::{Schedule, read_schedule};
 use std::alloc::Global;
@@ -33,7 +33,7 @@ fn judged_trace(alloc: Global, schedule: &Schedule, start: u64) -> Result<Vec<u8
     ensures refused { IfErr result (λ status.
         IsInvalidStatus schedule.now status ⊎ (status ≡ Status.OutOfMemory)) }
 {
-    judge(alloc, schedule)?;
-    let text = chrome_text(alloc, schedule, start)?;
+    let tracks = judged_tracks(alloc, schedule)?;
+    let text = chrome_text(alloc, schedule, &tracks, start)?;
     Ok(text)
 }

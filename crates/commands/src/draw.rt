@@ -8,8 +8,8 @@ ghost use Rattle.commands.specs.Check.{RefusesCheck};
 ghost use Rattle.commands.specs.Checking.{IsInvalidStatus};
 ghost use Rattle.commands.specs.Draw.{IsDrawingOf};
 
-use crate::check::judge;
 use crate::status::Status;
+use crate::witness::judged_tracks;
 use schedule_picture::{Axis, Window, picture_text};
 use schedule_text::{Schedule, read_schedule};
 use std::alloc::Global;
@@ -40,7 +40,7 @@ fn judged_picture(
     ensures refused { IfErr result (λ status.
         IsInvalidStatus schedule.now status ⊎ (status ≡ Status.OutOfMemory)) }
 {
-    judge(alloc, schedule)?;
-    let text = picture_text(alloc, schedule, axis, window)?;
+    let tracks = judged_tracks(alloc, schedule)?;
+    let text = picture_text(alloc, schedule, &tracks, axis, window)?;
     Ok(text)
 }

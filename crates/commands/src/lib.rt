@@ -21,6 +21,7 @@ mod status;
 mod summary;
 mod weak;
 mod weak_jobs;
+mod witness;
 
 pub use check::checked_text;
 pub use chrome::chrome_trace;

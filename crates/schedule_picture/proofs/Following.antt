@@ -11,22 +11,7 @@ use Rattle.schedule_picture.specs.declared.span.Seen.{Seen}
 use Rattle.schedule_picture.specs.declared.span.Span.{Span}
 use Rattle.schedule_picture.specs.Spans.{IsStretch, IsSpan, IsBefore, AreSpans}
 use Rattle.schedule_picture.specs.Track.{TrackData, fresh_track, open_span, spans_until, Sees}
-
--- a span that has ended, before this entry
-pub record IsEnded (seen : ℕ → Option Seen) (until : ℕ) (span : Span) : Type 0 where
-  pub stretch : IsStretch seen span
-  pub within : span.until ≤ until
-  pub ends : seen span.until ≢ Some span.what
-
--- a track has followed n entries: it has the spans that have ended, and what is seen now since `since`
-pub record Follows (seen : ℕ → Option Seen) (n : ℕ) (track : TrackData) : Type 0 where
-  pub current : track.current ≡ seen n
-  pub since : track.since ≤ n
-  pub unchanged : (i : ℕ) → track.since ≤ i → i ≤ n → seen i ≡ track.current
-  pub begun : (what : Seen) → track.current ≡ Some what → (1 ≤ track.since) × (seen (track.since - 1) ≢ Some what)
-  pub each : All (IsEnded seen track.since) track.spans
-  pub in_order : AllPairs IsBefore track.spans
-  pub all : (span : Span) → IsStretch seen span → span.until ≤ n → seen span.until ≢ Some span.what → Contains track.spans span
+use Rattle.schedule_picture.specs.History.{IsEndedSpan, TrackFollows}
 
 -- the span of these parts
 abbrev span_of : Seen → ℕ → ℕ → Span
@@ -35,13 +20,13 @@ span_of what from until = record { what = what; from = from; until = until }
 no_pairs : AllPairs IsBefore []
 no_pairs i j d lt below = absurd (omega (arith, below))
 
-pub follows_none : (seen : ℕ → Option Seen) → seen 0 ≡ None → Follows seen 0 fresh_track
+pub follows_none : (seen : ℕ → Option Seen) → seen 0 ≡ None → TrackFollows seen 0 fresh_track
 follows_none seen none = record {
   current = sym none;
   since = omega arith;
   unchanged = λ i low high. let zero : i ≡ 0 = omega arith in ap seen zero ∙ none;
   begun = λ what is. cc;
-  each = All-nil (IsEnded seen 0);
+  each = All-nil (IsEndedSpan seen 0);
   in_order = no_pairs;
   all = λ span stretch within ends. absurd (let begins = stretch.begins in let some = stretch.some in omega arith);
 }
@@ -51,7 +36,7 @@ same_span : (span : Span) (what : Seen) (from until : ℕ) → span.what ≡ wha
     → span_of what from until ≡ span
 same_span span what from until is_what is_from is_until = rw (← is_what, ← is_from, ← is_until) refl
 
-module _ (seen : ℕ → Option Seen) (n : ℕ) (track : TrackData) (follows : Follows seen n track) where
+module _ (seen : ℕ → Option Seen) (n : ℕ) (track : TrackData) (follows : TrackFollows seen n track) where
   -- what is seen up to n, is seen now
   stretch_current : (span : Span) → IsStretch seen span → span.until ≡ n + 1 → track.current ≡ Some span.what
   stretch_current span stretch end =
@@ -88,10 +73,10 @@ module _ (seen : ℕ → Option Seen) (n : ℕ) (track : TrackData) (follows : F
 
   -- those that have ended are before it
   ended_before : (k : ℕ) (d : Span) → k < length track.spans → (get_or track.spans k d).until ≤ track.since
-  ended_before k d lt = (All-get_or (IsEnded seen track.since) track.spans k d lt follows.each).within
+  ended_before k d lt = (All-get_or (IsEndedSpan seen track.since) track.spans k d lt follows.each).within
 
   -- ---- what is seen after the next entry too
-  pub follows_same : seen (n + 1) ≡ track.current → Follows seen (n + 1) track
+  pub follows_same : seen (n + 1) ≡ track.current → TrackFollows seen (n + 1) track
   follows_same same = record {
     current = sym same;
     since = let since = follows.since in omega arith;
@@ -112,7 +97,7 @@ module _ (seen : ℕ → Option Seen) (n : ℕ) (track : TrackData) (follows : F
 
   -- ---- something else
   module _ (changed : seen (n + 1) ≢ track.current) where
-    weaken : (span : Span) → IsEnded seen track.since span → IsEnded seen (n + 1) span
+    weaken : (span : Span) → IsEndedSpan seen track.since span → IsEndedSpan seen (n + 1) span
     weaken span ended = record {
       stretch = ended.stretch;
       within = let since = follows.since in let within = ended.within in omega arith;
@@ -120,9 +105,9 @@ module _ (seen : ℕ → Option Seen) (n : ℕ) (track : TrackData) (follows : F
     }
 
     -- a track whose spans are all that have ended follows
-    changed_from : (spans : List Span) → All (IsEnded seen (n + 1)) spans → AllPairs IsBefore spans
+    changed_from : (spans : List Span) → All (IsEndedSpan seen (n + 1)) spans → AllPairs IsBefore spans
         → ((span : Span) → IsStretch seen span → span.until ≤ n + 1 → seen span.until ≢ Some span.what → Contains spans span)
-        → Follows seen (n + 1) (record { current = seen (n + 1); since = n + 1; spans = spans })
+        → TrackFollows seen (n + 1) (record { current = seen (n + 1); since = n + 1; spans = spans })
     changed_from spans each in_order all = record {
       current = refl;
       since = omega arith;
@@ -138,24 +123,24 @@ module _ (seen : ℕ → Option Seen) (n : ℕ) (track : TrackData) (follows : F
       all = all;
     }
 
-    changed_none : track.current ≡ None → Follows seen (n + 1) (record { current = seen (n + 1); since = n + 1; spans = track.spans })
+    changed_none : track.current ≡ None → TrackFollows seen (n + 1) (record { current = seen (n + 1); since = n + 1; spans = track.spans })
     changed_none none = changed_from track.spans
-        (All-weaker (IsEnded seen track.since) (IsEnded seen (n + 1)) weaken track.spans follows.each) follows.in_order
+        (All-weaker (IsEndedSpan seen track.since) (IsEndedSpan seen (n + 1)) weaken track.spans follows.each) follows.in_order
         (λ span stretch within ends. elim (cases_lt n span.until) [
           | inl gt ↦ let end : span.until ≡ n + 1 = omega arith in let is = stretch_current span stretch end in cc
           | inr le ↦ follows.all span stretch le ends
         ])
 
     changed_some : (what : Seen) → track.current ≡ Some what
-        → Follows seen (n + 1) (record {
+        → TrackFollows seen (n + 1) (record {
           current = seen (n + 1);
           since = n + 1;
           spans = track.spans ++ span_of what track.since (n + 1)
               ∷ [];
         })
     changed_some what is = changed_from (track.spans ++ span_of what track.since (n + 1) ∷ [])
-        (All-push (IsEnded seen (n + 1)) track.spans (span_of what track.since (n + 1))
-        (All-weaker (IsEnded seen track.since) (IsEnded seen (n + 1)) weaken track.spans follows.each)
+        (All-push (IsEndedSpan seen (n + 1)) track.spans (span_of what track.since (n + 1))
+        (All-weaker (IsEndedSpan seen track.since) (IsEndedSpan seen (n + 1)) weaken track.spans follows.each)
         (record { stretch = current_stretch what is; within = omega arith; ends = λ still. changed (still ∙ sym is) }))
         (all_pairs_push IsBefore track.spans (span_of what track.since (n + 1)) follows.in_order ended_before)
         (λ span stretch within ends. elim (cases_lt n span.until) [
@@ -170,22 +155,22 @@ module _ (seen : ℕ → Option Seen) (n : ℕ) (track : TrackData) (follows : F
         ])
 
     changed_by : (current : Option Seen) → track.current ≡ current
-        → Follows seen (n + 1) (record {
+        → TrackFollows seen (n + 1) (record {
           current = seen (n + 1);
           since = n + 1;
           spans = track.spans
               ++ open_span current track.since (n + 1);
         })
     changed_by None is =
-        subst (λ (spans : List Span). Follows seen (n + 1) (record { current = seen (n + 1); since = n + 1; spans = spans }))
+        subst (λ (spans : List Span). TrackFollows seen (n + 1) (record { current = seen (n + 1); since = n + 1; spans = spans }))
         (sym (append-nil track.spans)) (changed_none is)
     changed_by (Some what) is = changed_some what is
 
-    pub follows_changed : Follows seen (n + 1) (record { current = seen (n + 1); since = n + 1; spans = spans_until track (n + 1) })
+    pub follows_changed : TrackFollows seen (n + 1) (record { current = seen (n + 1); since = n + 1; spans = spans_until track (n + 1) })
     follows_changed = changed_by track.current refl
 
   -- ---- the last entry
-  ended_is_span : (span : Span) → IsEnded seen track.since span → IsSpan seen n span
+  ended_is_span : (span : Span) → IsEndedSpan seen track.since span → IsSpan seen n span
   ended_is_span span ended = record {
     stretch = ended.stretch;
     within = let since = follows.since in let within = ended.within in omega arith;
@@ -201,7 +186,7 @@ module _ (seen : ℕ → Option Seen) (n : ℕ) (track : TrackData) (follows : F
 
   all_none : track.current ≡ None → AreSpans seen n track.spans
   all_none none = record {
-    each = All-weaker (IsEnded seen track.since) (IsSpan seen n) ended_is_span track.spans follows.each;
+    each = All-weaker (IsEndedSpan seen track.since) (IsSpan seen n) ended_is_span track.spans follows.each;
     in_order = follows.in_order;
     all = λ span is_span. elim (cases_lt n span.until) [
       | inl gt ↦
@@ -214,7 +199,7 @@ module _ (seen : ℕ → Option Seen) (n : ℕ) (track : TrackData) (follows : F
   all_some : (what : Seen) → track.current ≡ Some what → AreSpans seen n (track.spans ++ span_of what track.since (n + 1) ∷ [])
   all_some what is = record {
     each = All-push (IsSpan seen n) track.spans (span_of what track.since (n + 1))
-        (All-weaker (IsEnded seen track.since) (IsSpan seen n) ended_is_span track.spans follows.each)
+        (All-weaker (IsEndedSpan seen track.since) (IsSpan seen n) ended_is_span track.spans follows.each)
         (record { stretch = current_stretch what is; within = omega arith; ends = inl refl });
     in_order = all_pairs_push IsBefore track.spans (span_of what track.since (n + 1)) follows.in_order ended_before;
     all = λ span is_span. elim (cases_lt n span.until) [
@@ -237,8 +222,8 @@ module _ (seen : ℕ → Option Seen) (n : ℕ) (track : TrackData) (follows : F
   pub follows_all : AreSpans seen n (spans_until track (n + 1))
   follows_all = all_by track.current refl
 
-  pub follows_more : (new : TrackData) → Sees (n + 1) (seen (n + 1)) track new → Follows seen (n + 1) new
+  pub follows_more : (new : TrackData) → Sees (n + 1) (seen (n + 1)) track new → TrackFollows seen (n + 1) new
   follows_more new sees = elim sees [
-    | inl same ↦ subst (Follows seen (n + 1)) (sym same.1) (follows_same same.0)
-    | inr changed ↦ subst (Follows seen (n + 1)) (sym changed.1) (follows_changed changed.0)
+    | inl same ↦ subst (TrackFollows seen (n + 1)) (sym same.1) (follows_same same.0)
+    | inr changed ↦ subst (TrackFollows seen (n + 1)) (sym changed.1) (follows_changed changed.0)
   ]

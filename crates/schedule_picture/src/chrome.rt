@@ -1,13 +1,12 @@
 //! A schedule as a trace in Chrome's format, which Perfetto opens.
 ghost use Rattle.std.specs.Prelude.{◌≡◌, ◌≤◌, ◌++◌, ◌<◌, OnOk, IfOk};
 ghost use Rattle.std.specs.List.{flat_map, range_with_len};
-ghost use Rattle.strong_apa.specs.Passing.{IsPassing};
 ghost use Rattle.text_fields.specs.EventText.{name_of};
 ghost use Rattle.schedule_picture.specs.Chrome.{IsChrome, chrome_of, thread_of, event_of_span, stay_event_text, lane_events, thread_text};
+ghost use Rattle.schedule_picture.specs.History.{HaveSpans};
 ghost use Rattle.schedule_picture.specs.Picture.{spans_in};
 
 use crate::axis::moments;
-use crate::follow::tracks_of;
 use crate::groups::{write_field, write_word};
 use crate::sheet::{Sheet, spans_at};
 use crate::span::{Seen, Span};
@@ -21,17 +20,21 @@ use std::alloc::Global;
 /// The last moment of a clock at which a trace may begin: in JSON numbers up to it are exact.
 pub const LAST_START: u64 = 9_007_199_254_740_991;
 
-/// The stays of a schedule whose replies pass as a trace in Chrome's format: a JSON array of events, of which the process
-/// stands for the schedule, and a thread for each processor. A unit of time is a microsecond there, and the schedule begins at
-/// the moment `start`. Refused only where memory runs out.
-pub fn chrome_text(alloc: Global, schedule: &Schedule, start: u64) -> Result<Vec<u8>, OutOfMemory>
-    requires passing { IsPassing schedule.now.set schedule.now.entries }
+/// The stays of a schedule, of which these are the spans, as a trace in Chrome's format: a JSON array of events, of which the
+/// process stands for the schedule, and a thread for each processor. A unit of time is a microsecond there, and the schedule
+/// begins at the moment `start`. Refused only where memory runs out.
+pub fn chrome_text(
+    alloc: Global,
+    schedule: &Schedule,
+    tracks: &Tracks,
+    start: u64,
+) -> Result<Vec<u8>, OutOfMemory>
+    requires spans { HaveSpans schedule.now.set schedule.now.entries tracks.now }
     requires early { start ≤ 9007199254740991 }
     ensures { IfOk result (λ text. IsChrome start schedule.now.set schedule.now.entries text.items) }
 {
-    let tracks = tracks_of(alloc, schedule)?;
     let moments = moments(alloc, schedule.entries(), start)?;
-    let text = trace_of(&tracks, &moments, schedule)?;
+    let text = trace_of(tracks, &moments, schedule)?;
     Ok(text)
 }
 

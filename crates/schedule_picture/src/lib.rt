@@ -1,8 +1,8 @@
 //! Pictures of schedules: what each processor and each task did.
 //!
-//! [`tracks_of`] follows the entries of a schedule once. Each [`Track`] has the spans of one processor or one task, each that
-//! there is, once, in order. [`picture_text`] draws a window of them as SVG, over units of time or with a column for each
-//! entry. [`chrome_text`] gives the stays as a trace in Chrome's format.
+//! A [`Tracker`] sees the links after each entry of a schedule, from whoever judges these. Each [`Track`] that it has in the end
+//! has the spans of one processor or one task, each that there is, once, in order. [`picture_text`] draws a window of them as
+//! SVG, over units of time or with a column for each entry. [`chrome_text`] gives the stays as a trace in Chrome's format.
 #![tactic(auto)]
 
 mod around;
@@ -10,7 +10,6 @@ mod assembly;
 pub mod axis;
 mod chrome;
 mod colours;
-mod follow;
 mod groups;
 mod listing;
 mod page;
@@ -19,14 +18,15 @@ mod rows;
 mod sheet;
 pub mod span;
 pub mod track;
+pub mod tracker;
 pub mod tracks;
 pub mod window;
 
 pub use axis::Axis;
 pub use chrome::{LAST_START, chrome_text};
-pub use follow::tracks_of;
 pub use picture::picture_text;
 pub use span::{Seen, Span};
 pub use track::Track;
+pub use tracker::Tracker;
 pub use tracks::Tracks;
 pub use window::Window;

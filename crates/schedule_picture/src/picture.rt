@@ -1,6 +1,5 @@
 //! The picture of a schedule.
 ghost use Rattle.std.specs.Prelude.{◌≡◌, ◌≤◌, ◌+◌, All, length, slice_index, IfOk};
-ghost use Rattle.strong_apa.specs.Passing.{IsPassing};
 ghost use Rattle.schedule_text.specs.ScheduleText.{IsEntryOf};
 ghost use Rattle.schedule_picture.specs.Elements.{IsWellFormedElement};
 ghost use Rattle.schedule_picture.specs.History.{HaveSpans};
@@ -9,7 +8,6 @@ ghost use Rattle.schedule_picture.specs.Picture.{IsPicture, HasGroupsOf, cut_win
 use crate::around::{longest_label, text_after, text_before, text_between};
 use crate::assembly::{Around, assembled};
 use crate::axis::{Axis, Facts, places_of, units_in};
-use crate::follow::tracks_of;
 use crate::listing::listed;
 use crate::page::Page;
 use crate::sheet::Sheet;
@@ -23,24 +21,24 @@ use strong_apa::Entry;
 /// How many entries a window has at most whose moves, arrivals and departures are marked.
 const MARKED_ENTRIES: u32 = 400;
 
-/// The picture of a window of a schedule whose replies pass, over units of time or with a column for each entry. Refused
-/// only where memory runs out.
+/// The picture of a window of a schedule, of which these are the spans, over units of time or with a column for each entry.
+/// Refused only where memory runs out.
 pub fn picture_text(
     alloc: Global,
     schedule: &Schedule,
+    tracks: &Tracks,
     axis: Axis,
     window: Window,
 ) -> Result<Vec<u8>, OutOfMemory>
-    requires { IsPassing schedule.now.set schedule.now.entries }
+    requires { HaveSpans schedule.now.set schedule.now.entries tracks.now }
     ensures { IfOk result (λ text.
         IsPicture axis schedule.now.set schedule.now.entries window text.items) }
 {
-    let tracks = tracks_of(alloc, schedule)?;
     let places = places_of(alloc, axis, schedule)?;
-    drawn(&tracks, &places, schedule, axis, window)
+    drawn(tracks, &places, schedule, axis, window)
 }
 
-/// The same, with the spans and the places.
+/// The same, with the places.
 fn drawn(
     tracks: &Tracks,
     places: &Vec<u64>,
