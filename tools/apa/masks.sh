@@ -16,7 +16,7 @@ masks_of_jobs() {
     try_masks
     if [ -s "$folder/asked" ]; then
         print_table 'late: jobs of all tasks that are due by the horizon and not done then'
-    elif awk '$1 == "task" && $8 + $12 { late = 1 } END { exit !late }' "$folder/finishes"; then
+    elif awk '$1 == "task" && $8 + $12 { late = 1 } END { exit !late }' "$folder/finishes" >/dev/null; then
         print_table 'each task that is late may run on all processors already'
     else
         print_table 'no job is late'

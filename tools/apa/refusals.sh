@@ -17,6 +17,7 @@ in_words() {
 # text of two files the first has so many lines. A name with `=` in it has a folder before it, since for awk it would set a variable.
 find_place() {
     case $input in
+    /dev/stdin | /dev/fd/0) named=/proc/self/fd/0 ;; # awk would go on where the program has read to
     /*) named=$input ;;
     *) named=./$input ;;
     esac
