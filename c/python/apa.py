@@ -22,7 +22,7 @@ from typing import NamedTuple, Optional
 __all__ = ["Fault", "Happened", "Move", "Reply", "Scheduler"]
 
 # Of the library that this file is made for, and of the command.
-VERSION = "0.7.0"
+VERSION = "0.8.0"
 NONE = 2**32 - 1
 SLOT = 1024
 
