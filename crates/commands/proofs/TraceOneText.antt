@@ -29,7 +29,8 @@ lost_text_is_unique read put other one two =
     subst (λ (t : TaskTraceData). IsLossText t other) (one_trace read two.trace trace two.is_text one.is_text) two.is_loss in
     let passages = trace.passages in
     let same =
-    losses_are_unique trace.set (length trace.set.tasks + length trace.unlisted) passages told.units also.units told.losses also.losses told.beside also.beside
+    losses_are_unique trace.set (length trace.set.tasks + length trace.unlisted) passages told.units also.units told.losses also.losses
+    told.beside also.beside
     told.valid
     one.is_trace.in_order told.are also.are in
     let jumps = jumps_are_unique passages told.jumps also.jumps told.are_jumps also.are_jumps in

@@ -55,9 +55,11 @@ pub record IsLossText (trace : TaskTraceData) (put : List ℕ) : Type 0 where
   pub threads : List ThreadRow
   pub jumps : ℕ
   pub valid : IsTaskSet trace.set
-  pub are : AreLosses trace.set (length trace.set.tasks + length trace.unlisted) trace.passages units
+  pub are : AreLosses trace.set (length trace.set.tasks + length trace.unlisted)
+      trace.passages units
       losses beside
-  pub are_most : AreMost 10 (thread_rows trace.unlisted (drop (length trace.set.tasks) beside)) threads
+  pub are_most : AreMost 10 (thread_rows trace.unlisted (drop (length trace.set.tasks) beside))
+      threads
   pub are_jumps : AreJumps trace.passages jumps
   pub text : put ≡ loss_text trace.set trace.clock units (told_rows trace.mentioned 0 losses)
       (length trace.unlisted) threads jumps

@@ -4,8 +4,8 @@
 -- its first one and the clock then, `-` where there is none; and the task that ran then. A task
 -- that no line mentions has `-`. After the tasks stand how many other threads are told apart, and
 -- those of them that ran most while a task was lost. Last stands how many switches are from another
--- thread than the one that the switch before it on the same processor went to. Lines end with a line feed, fields are
--- separated by one space, and numbers are canonical.
+-- thread than the one that the switch before it on the same processor went to. Lines end with a
+-- line feed, fields are separated by one space, and numbers are canonical.
 use Rattle.std.specs.Prelude.{ℕ, ◌+◌, ◌==◌, List, [], ◌∷◌, ◌++◌, codes, Option, Some, None}
 use Rattle.std.specs.Prelude.{if◌then◌else◌}
 use Rattle.affinity_mask.specs.Number.{canonical_number}
