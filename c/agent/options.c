@@ -19,11 +19,11 @@ static const char usage[] =
     "  --restore        puts masks back that an agent left narrow that was killed, and ends\n"
     "SIGHUP: TASKS is read anew. It needs CAP_SYS_NICE, CAP_PERFMON, CAP_BPF and CAP_IPC_LOCK, so root has it.\n";
 
-static bool read_number(const char *word, const char *text, long most, long *number) {
+static bool read_number(const char *word, const char *text, long least, long most, long *number) {
     char *end;
     *number = strtol(text, &end, 10);
-    if (end != text && *end == 0 && *number >= 0 && *number <= most) return true;
-    say("%s wants a number from 0 to %ld, not `%s`", word, most, text);
+    if (end != text && *end == 0 && *number >= least && *number <= most) return true;
+    say("%s wants a number from %ld to %ld, not `%s`", word, least, most, text);
     return false;
 }
 
@@ -35,16 +35,16 @@ static bool read_value(const char *word, const char *value) {
     else if (!strcmp(word, "--state")) o->state = value;
     else if (!strcmp(word, "--lock")) o->lock = value;
     else if (!strcmp(word, "--cpu")) {
-        if (!read_number(word, value, MOST_PROCESSORS - 1, &number)) return false;
+        if (!read_number(word, value, 0, MOST_PROCESSORS - 1, &number)) return false;
         o->processor = (int)number;
     } else if (!strcmp(word, "--priority")) {
-        if (!read_number(word, value, 99, &number)) return false;
+        if (!read_number(word, value, 0, 99, &number)) return false;
         o->priority = (int)number;
     } else if (!strcmp(word, "--seconds")) {
-        if (!read_number(word, value, 1000000000, &number)) return false;
+        if (!read_number(word, value, 0, 1000000000, &number)) return false;
         o->seconds = (unsigned)number;
     } else if (!strcmp(word, "--ring")) {
-        if (!read_number(word, value, 1 << 28, &number)) return false;
+        if (!read_number(word, value, 4096, 1 << 28, &number)) return false;
         o->ring = (unsigned)number;
     } else if (!strcmp(word, "--source")) {
         o->perf = !strcmp(value, "perf");
