@@ -10,7 +10,7 @@ use Rattle.commands.proofs.jobs_schedule.checker_after.Goals as goal
 pub loop-entry-init : goal.loop-entry-init
 loop-entry-init c =
     followed_start (schedule_of 1 c.args.set.now c.args.history.now) c.in_ok-checker.checker c.in_ok-checker.ensures.links
-    c.in_ok-checker.ensures.contexts
+    c.in_ok-checker.ensures.contexts c.in_ok-checker.ensures.valid
 
 pub accept-requires : goal.accept-requires
 accept-requires c =
@@ -33,7 +33,7 @@ loop-entry-preserved c =
     let n = c.loop-entry.entry-index in
     followed_more schedule n c.entry-item.result c.loop-entry.checker c.accept.new.self
     (entry_read schedule c.args.history.now n c.entry-item.result refl c.loop-entry-test.true c.entry-item.is)
-    c.loop-entry.invariant c.in-Ok.ensures.accepted c.in-Ok.ensures.links c.in-Ok.ensures.contexts
+    c.loop-entry.invariant c.in-Ok.ensures.accepted c.in-Ok.ensures.links c.in-Ok.ensures.contexts c.accept.ensures.valid
 
 pub returns : goal.returns
 returns c =
