@@ -1,0 +1,69 @@
+-- The picture of bars: the lanes of the trace, those of strong scheduling, and the rows, each a group
+-- whose view box has the moments of the part, so that nothing is rounded, and what stands around
+-- them.
+use Rattle.std.specs.Prelude.{◌≡◌, ℕ, ◌+◌, ◌*◌, ◌≤◌, List, ◌++◌, length, codes, if◌then◌else◌}
+use Rattle.std.specs.List.{flat_map, list_any}
+use Rattle.affinity_mask.specs.Number.{canonical_number}
+use Rattle.trace_bars.specs.declared.bars.Bars.{Bars}
+use Rattle.trace_bars.specs.declared.mark.Bar.{Bar}
+use Rattle.trace_picture.specs.Around.{around_text, legend_text}
+use Rattle.trace_picture.specs.Lanes.{is_beyond, strong_bar, trace_bar}
+use Rattle.trace_picture.specs.Listing.{listed_of}
+use Rattle.trace_picture.specs.Page.{rows_top, strong_top}
+use Rattle.trace_picture.specs.Rows.{row_bar}
+use Rattle.trace_picture.specs.Scene.{SceneData, span_of}
+use Rattle.trace_picture.specs.declared.page.Page.{Page}
+
+-- how many lanes of the trace there are: one for each processor, and one more where a bar is on a
+-- processor beyond these
+abbrev pub lanes_of : ℕ → List Bar → ℕ
+lanes_of processors bars =
+    if list_any (is_beyond processors) bars then processors + 1 else processors
+
+-- a group begins with its place on the page and its view box: the part, and eight for each lane or
+-- row
+unfoldable pub group_head : ℕ → ℕ → ℕ → ℕ → List ℕ
+group_head span top high eighths =
+    codes "<svg x=\"200\" y=\"" ++ canonical_number top
+    ++ codes "\" width=\"1000\" height=\"" ++ canonical_number high
+    ++ codes "\" viewBox=\"0 0 " ++ canonical_number span ++ codes " " ++ canonical_number eighths
+    ++ codes "\" preserveAspectRatio=\"none\">\n"
+
+unfoldable pub trace_group : SceneData → Page → List Bar → List ℕ
+trace_group scene page bars =
+    group_head (span_of scene.part) 56 (24 * page.lanes) (8 * page.lanes)
+    ++ flat_map (trace_bar scene page.processors) bars ++ codes "</svg>\n"
+
+unfoldable pub strong_group : SceneData → Page → List Bar → List ℕ
+strong_group scene page bars =
+    group_head (span_of scene.part) (strong_top page) (24 * page.processors) (8 * page.processors)
+    ++ flat_map (strong_bar scene) bars ++ codes "</svg>\n"
+
+unfoldable pub rows_group : SceneData → Page → List ℕ → List Bar → List ℕ
+rows_group scene page listed bars =
+    group_head (span_of scene.part) (rows_top page) (16 * page.rows) (8 * page.rows)
+    ++ flat_map (row_bar scene listed) bars ++ codes "</svg>\n"
+
+-- the whole, for an axis with lines at the multiples of a step
+unfoldable pub drawn_text : SceneData → Page → List ℕ → ℕ → Bars → List ℕ
+drawn_text scene page listed step bars =
+    around_text scene page listed step ++ trace_group scene page bars.trace.items
+    ++ strong_group scene page bars.strong.items ++ rows_group scene page listed bars.rows.items
+    ++ legend_text page ++ codes "</svg>\n"
+
+-- the page for these bars
+abbrev pub listed_in : SceneData → Bars → List ℕ
+listed_in scene bars = listed_of (length scene.set.tasks) bars.rows.items
+
+abbrev pub page_for : SceneData → Bars → Page
+page_for scene bars = record {
+  processors = scene.set.processors;
+  lanes = lanes_of scene.set.processors bars.trace.items;
+  rows = length (listed_in scene bars);
+}
+
+-- the text is the picture of these bars, with some step of the axis
+pub record IsPicture (scene : SceneData) (bars : Bars) (text : List ℕ) : Type 0 where
+  pub step : ℕ
+  pub some : 1 ≤ step
+  pub is : text ≡ drawn_text scene (page_for scene bars) (listed_in scene bars) step bars

@@ -1,0 +1,272 @@
+//! What stands around the bars of a picture: the title, the axis, the names and the legend.
+ghost use Rattle.std.specs.Prelude.{◌≡◌, ◌≤◌, ◌++◌, OnOk};
+ghost use Rattle.std.specs.List.{flat_map, range_with_len};
+ghost use Rattle.trace_picture.specs.Around.{around_text, opening_text, title_text, headings_text, tick_text, tick_at, axis_text, label_text, labels_text, other_text, beyond_text, name_text, names_text, legend_text};
+ghost use Rattle.trace_picture.specs.Scene.{scene_of};
+
+use crate::page::{LANE, Page, ROW, TOP};
+use crate::scene::Scene;
+use affinity_mask::OutOfMemory;
+use kernel_trace::stamp_text::write_stamp_after;
+use text_fields::write_number;
+
+/// The colours: of tasks by their numbers, light ones, so that a name can be read on each; of lost spans, and of waits.
+const STYLE: &str =
+    ".c0{fill:#a6cee3}.c1{fill:#fdbf6f}.c2{fill:#b2df8a}.c3{fill:#a5ebe3}.c4{fill:#cab2d6}.c5{fill:#ffff99}.c6{fill:#8dd3c7}.c7{fill:#f4cae4}.c8{fill:#d9c3a5}.c9{fill:#9ec9ff}.c10{fill:#c7e89c}.c11{fill:#ffc9a3}.c12{fill:#7fc8d9}.c13{fill:#e8d174}.c14{fill:#8fd19e}.c15{fill:#94a8d8}.c16{fill:#b59ad0}.c17{fill:#e3e36b}.c18{fill:#66c2a5}.c19{fill:#e5a0c8}.c20{fill:#bfa27c}.c21{fill:#77a8e6}.c22{fill:#a3cf62}.c23{fill:#ffab73}.lost{fill:#d9534f}.waited{fill:#ddd}";
+
+/// At how many places there may be a line of the axis.
+const PLACES: u64 = 14;
+
+/// Appends some text.
+pub(crate) fn put(text: &mut Vec<u8>, line: &str) -> Result<(), OutOfMemory>
+    ensures { OnOk result (text.new.items ≡ text.old.items ++ line.now) }
+{
+    text.extend_from_slice(line.as_bytes())?;
+    Ok(())
+}
+
+/// Appends all that stands before the bars.
+pub(crate) fn write_around(
+    text: &mut Vec<u8>,
+    scene: &Scene,
+    page: Page,
+    listed: &[usize],
+    step: u64,
+) -> Result<(), OutOfMemory>
+    requires { 1 ≤ step }
+    ensures { OnOk result (text.new.items ≡ text.old.items
+        ++ around_text (scene_of scene.now) page listed.now step) }
+{
+    write_opening(text, scene, page)?;
+    write_title(text, scene)?;
+    write_headings(text, scene, page)?;
+    write_axis(text, scene, page, step)?;
+    write_labels(text, scene, TOP, page.processors)?;
+    write_beyond(text, scene, page)?;
+    write_labels(text, scene, page.strong_top(), page.processors)?;
+    write_names(text, scene, page.rows_top(), listed)
+}
+
+/// Appends the beginning of the page.
+fn write_opening(text: &mut Vec<u8>, scene: &Scene, page: Page) -> Result<(), OutOfMemory>
+    ensures { OnOk result (text.new.items ≡ text.old.items ++ opening_text page) }
+{
+    let height = page.bottom() + 64;
+    let line = format!(in scene.alloc;
+        "<svg xmlns=\"http://www.w3.org/2000/svg\" width=\"1240\" height=\"{height}\" viewBox=\"0 0 1240 {height}\" font-family=\"DejaVu Sans,Arial,sans-serif\" font-size=\"11\">\n<rect width=\"1240\" height=\"{height}\" fill=\"#fff\"/>\n<style>"
+    )?;
+    put(text, &line)?;
+    put(text, STYLE)?;
+    put(text, "</style>\n")
+}
+
+/// Appends the title.
+fn write_title(text: &mut Vec<u8>, scene: &Scene) -> Result<(), OutOfMemory>
+    ensures { OnOk result (text.new.items ≡ text.old.items ++ title_text (scene_of scene.now)) }
+{
+    let processors = scene.set.processors();
+    let tasks = scene.set.len();
+    let from = scene.part.from;
+    let to = scene.part.to;
+    let line = format!(in scene.alloc;
+        "<text x=\"8\" y=\"16\" font-weight=\"bold\">{processors} processors, {tasks} tasks, from {from} to {to} us, at "
+    )?;
+    put(text, &line)?;
+    write_stamp_after(text, scene.clock, from)?;
+    put(text, "</text>\n")
+}
+
+/// Appends what the lanes and the rows are.
+fn write_headings(text: &mut Vec<u8>, scene: &Scene, page: Page) -> Result<(), OutOfMemory>
+    ensures { OnOk result (text.new.items ≡ text.old.items ++ headings_text page) }
+{
+    let strong = page.strong_top() - 8;
+    let rows = page.rows_top() - 8;
+    let line = format!(in scene.alloc;
+        "<text x=\"8\" y=\"48\" fill=\"#666\">in the trace</text>\n<text x=\"8\" y=\"{strong}\" fill=\"#666\">under strong scheduling</text>\n<text x=\"8\" y=\"{rows}\" fill=\"#666\">tasks</text>\n"
+    )?;
+    put(text, &line)
+}
+
+/// The distance of the lines of the axis: 1, 2 or 5 times a power of ten, so that there are at most 13.
+pub(crate) fn step_of(span: u64) -> u64
+    ensures { 1 ≤ result }
+{
+    let mut step = 1u64;
+    for i in 0..60u32 {
+        if span / step.max(1) <= 12 {
+            break;
+        }
+        let next = if i % 3 == 1 {
+            (step / 2).saturating_mul(5)
+        } else {
+            step.saturating_mul(2)
+        };
+        step = next.max(1);
+    }
+    step.max(1)
+}
+
+/// Appends the axis: a line at each multiple of the step within the part.
+fn write_axis(text: &mut Vec<u8>, scene: &Scene, page: Page, step: u64) -> Result<(), OutOfMemory>
+    requires { 1 ≤ step }
+    ensures { OnOk result (text.new.items ≡ text.old.items
+        ++ axis_text (scene_of scene.now) page step) }
+{
+    let bottom = page.bottom();
+    for i in 0..PLACES {
+        write_tick_at(text, scene, bottom, step, i)?;
+    }
+    let below = bottom + 14;
+    let under = bottom + 27;
+    let line = format!(in scene.alloc;
+        "<text x=\"8\" y=\"{below}\" fill=\"#666\">ms</text>\n<text x=\"8\" y=\"{under}\" fill=\"#666\">clock</text>\n"
+    )?;
+    put(text, &line)
+}
+
+/// Appends the line of the i-th multiple of the step from the last one on that is not after the beginning of the part, where it is in
+/// the part.
+fn write_tick_at(
+    text: &mut Vec<u8>,
+    scene: &Scene,
+    bottom: u32,
+    step: u64,
+    i: u64,
+) -> Result<(), OutOfMemory>
+    requires some { 1 ≤ step }
+    requires few { i ≤ 13 }
+    requires page { bottom ≤ 65535 }
+    ensures { OnOk result (text.new.items ≡ text.old.items
+        ++ tick_at (scene_of scene.now) bottom step i) }
+{
+    let from = scene.part.from;
+    let place = u128::from(from - from % step) + u128::from(i) * u128::from(step);
+    if place < u128::from(from) || u128::from(scene.part.to) < place {
+        return Ok(());
+    }
+    write_tick(text, scene, bottom, place as u64)
+}
+
+/// Appends the line of a moment.
+fn write_tick(
+    text: &mut Vec<u8>,
+    scene: &Scene,
+    bottom: u32,
+    moment: u64,
+) -> Result<(), OutOfMemory>
+    requires { bottom ≤ 65535 }
+    ensures { OnOk result (text.new.items ≡ text.old.items
+        ++ tick_text (scene_of scene.now) bottom moment) }
+{
+    let x = scene.across(moment);
+    let below = bottom + 14;
+    let under = bottom + 27;
+    let ms = moment / 1000;
+    let tenths = moment / 100 % 10;
+    let hundredths = moment / 10 % 10;
+    let thousandths = moment % 10;
+    let line = format!(in scene.alloc;
+        "<path d=\"M{x},52 V{bottom}\" stroke=\"#ddd\"/><text x=\"{x}\" y=\"{below}\" text-anchor=\"middle\">{ms}.{tenths}{hundredths}{thousandths}</text><text x=\"{x}\" y=\"{under}\" text-anchor=\"middle\" font-size=\"9\" fill=\"#666\">"
+    )?;
+    put(text, &line)?;
+    write_stamp_after(text, scene.clock, moment)?;
+    put(text, "</text>\n")
+}
+
+/// Appends the names of so many processors, and a line below each lane.
+fn write_labels(text: &mut Vec<u8>, scene: &Scene, top: u32, count: u8) -> Result<(), OutOfMemory>
+    requires { top ≤ 65535 }
+    ensures { OnOk result (text.new.items ≡ text.old.items ++ labels_text top count) }
+{
+    for p in 0..count {
+        write_label(text, scene, top, p)?;
+    }
+    Ok(())
+}
+
+/// Appends those of a processor.
+fn write_label(text: &mut Vec<u8>, scene: &Scene, top: u32, p: u8) -> Result<(), OutOfMemory>
+    requires { top ≤ 65535 }
+    ensures { OnOk result (text.new.items ≡ text.old.items ++ label_text top p) }
+{
+    let y = top + LANE * u32::from(p) + 16;
+    let under = top + LANE * u32::from(p) + 24;
+    let line = format!(in scene.alloc;
+        "<text x=\"192\" y=\"{y}\" text-anchor=\"end\">cpu {p}</text><path d=\"M200,{under} h1000\" stroke=\"#ccc\"/>\n"
+    )?;
+    put(text, &line)
+}
+
+/// Appends the name of the lane of processors beyond, where there is one.
+fn write_beyond(text: &mut Vec<u8>, scene: &Scene, page: Page) -> Result<(), OutOfMemory>
+    ensures { OnOk result (text.new.items ≡ text.old.items ++ beyond_text page) }
+{
+    if page.lanes <= page.processors {
+        return Ok(());
+    }
+    write_other(text, scene, page.processors)
+}
+
+/// Appends the name of the lane of processors beyond, and a line below it.
+fn write_other(text: &mut Vec<u8>, scene: &Scene, lane: u8) -> Result<(), OutOfMemory>
+    ensures { OnOk result (text.new.items ≡ text.old.items ++ other_text lane) }
+{
+    let y = TOP + LANE * u32::from(lane) + 16;
+    let under = TOP + LANE * u32::from(lane) + 24;
+    let line = format!(in scene.alloc;
+        "<text x=\"192\" y=\"{y}\" text-anchor=\"end\">other cpus</text><path d=\"M200,{under} h1000\" stroke=\"#ccc\"/>\n"
+    )?;
+    put(text, &line)
+}
+
+/// Appends the colours and the names of the tasks that are listed, and a line below each row.
+fn write_names(
+    text: &mut Vec<u8>,
+    scene: &Scene,
+    top: u32,
+    listed: &[usize],
+) -> Result<(), OutOfMemory>
+    ensures { OnOk result (text.new.items ≡ text.old.items
+        ++ names_text (scene_of scene.now) top 0 listed.now) }
+{
+    for k in 0..listed.len() {
+        write_name(text, scene, top, k, listed[k])?;
+    }
+    Ok(())
+}
+
+/// Appends those of a task.
+fn write_name(
+    text: &mut Vec<u8>,
+    scene: &Scene,
+    top: u32,
+    k: usize,
+    task: usize,
+) -> Result<(), OutOfMemory>
+    ensures { OnOk result (text.new.items ≡ text.old.items
+        ++ name_text (scene_of scene.now) top k task) }
+{
+    let row = u128::from(top) + u128::from(ROW) * k as u128;
+    let box_top = row + 3;
+    let y = row + 12;
+    let under = row + 16;
+    let colour = task % 24;
+    let name = scene.name(task);
+    let line = format!(in scene.alloc;
+        "<rect class=\"c{colour}\" x=\"4\" y=\"{box_top}\" width=\"10\" height=\"10\"/><text x=\"20\" y=\"{y}\">{name}</text><path d=\"M200,{under} h1000\" stroke=\"#eee\"/>\n"
+    )?;
+    put(text, &line)
+}
+
+/// Appends the legend.
+pub(crate) fn write_legend(text: &mut Vec<u8>, scene: &Scene, page: Page) -> Result<(), OutOfMemory>
+    ensures { OnOk result (text.new.items ≡ text.old.items ++ legend_text page) }
+{
+    let top = page.bottom() + 41;
+    let y = page.bottom() + 50;
+    let line = format!(in scene.alloc;
+        "<rect class=\"c0\" x=\"200\" y=\"{top}\" width=\"8\" height=\"9\"/><rect class=\"c1\" x=\"208\" y=\"{top}\" width=\"8\" height=\"9\"/><rect class=\"c2\" x=\"216\" y=\"{top}\" width=\"8\" height=\"9\"/><text x=\"228\" y=\"{y}\" fill=\"#666\">ran</text><rect class=\"lost\" x=\"262\" y=\"{top}\" width=\"24\" height=\"9\"/><text x=\"290\" y=\"{y}\" fill=\"#666\">lost: in the best set, and ran nowhere</text><rect class=\"waited\" x=\"522\" y=\"{top}\" width=\"24\" height=\"9\"/><text x=\"550\" y=\"{y}\" fill=\"#666\">waited, as under strong scheduling</text><text x=\"770\" y=\"{y}\" fill=\"#666\">white in a lane: idle, or a thread that is no task</text>\n"
+    )?;
+    put(text, &line)
+}
