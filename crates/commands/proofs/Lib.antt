@@ -13,6 +13,7 @@ pub mod LossRows
 pub mod MadeTexts
 pub mod NestedAnswers
 pub mod OneVerdict
+pub mod PassageSpans
 pub mod ReadBytes
 pub mod Refusals
 pub mod RunSchedules

@@ -2,13 +2,14 @@
 -- scheduling would have had for the same readiness. A moment is a microsecond since the first
 -- change.
 use Rattle.std.specs.Prelude.{ℕ, min, max, List, length}
-use Rattle.kernel_trace.specs.Passage.{TaskTraceData, IsTaskTraceText, span_of}
+use Rattle.kernel_trace.specs.Passage.{TaskTraceData, IsTaskTraceText}
 use Rattle.kernel_trace.specs.Passages.{IsTaskTrace}
 use Rattle.schedule_picture.specs.declared.window.Window.{Window}
 use Rattle.task_set.specs.TaskSet.{IsTaskSet}
 use Rattle.trace_bars.specs.Parts.{AreBarsOf, trace_of}
 use Rattle.trace_bars.specs.declared.bars.Bars.{Bars}
 use Rattle.trace_bars.specs.declared.bars.Part.{Part}
+use Rattle.trace_passages.specs.Passages.{span_of}
 use Rattle.trace_picture.specs.Picture.{IsPicture}
 use Rattle.trace_picture.specs.Scene.{SceneData}
 

@@ -106,8 +106,8 @@ unfoldable pub beyond_text : Page → List ℕ
 beyond_text page = if nat_le page.lanes page.processors then [] else other_text page.processors
 
 -- the colour and the name of a task, and a line below its row
-unfoldable pub name_text : SceneData → ℕ → ℕ → ℕ → List ℕ
-name_text scene top k task =
+unfoldable pub task_text : SceneData → ℕ → ℕ → ℕ → List ℕ
+task_text scene top k task =
     codes "<rect class=\"c" ++ canonical_number (task % 24)
     ++ codes "\" x=\"4\" y=\"" ++ canonical_number (top + 16 * k + 3)
     ++ codes "\" width=\"10\" height=\"10\"/><text x=\"20\" y=\"" ++ canonical_number (top + 16 * k + 12)
@@ -116,10 +116,19 @@ name_text scene top k task =
     ++ codes " h1000\" stroke=\"#eee\"/>\n"
 
 -- those of tasks that are listed, from this row on
-abbrev pub names_text : SceneData → ℕ → ℕ → List ℕ → List ℕ
-names_text scene top k [] = []
-names_text scene top k (task ∷ rest) =
-    name_text scene top k task ++ names_text scene top (k + 1) rest
+abbrev pub tasks_text : SceneData → ℕ → ℕ → List ℕ → List ℕ
+tasks_text scene top k [] = []
+tasks_text scene top k (task ∷ rest) =
+    task_text scene top k task ++ tasks_text scene top (k + 1) rest
+
+-- a group begins with its place on the page and its view box: the part, and eight for each lane or
+-- row
+unfoldable pub group_head : ℕ → ℕ → ℕ → ℕ → List ℕ
+group_head span top high eighths =
+    codes "<svg x=\"200\" y=\"" ++ canonical_number top
+    ++ codes "\" width=\"1000\" height=\"" ++ canonical_number high
+    ++ codes "\" viewBox=\"0 0 " ++ canonical_number span ++ codes " " ++ canonical_number eighths
+    ++ codes "\" preserveAspectRatio=\"none\">\n"
 
 -- ---- together
 -- all that stands before the bars
@@ -128,7 +137,7 @@ around_text scene page listed step =
     opening_text page ++ title_text scene ++ headings_text page ++ axis_text scene page step
     ++ labels_text 56 page.processors ++ beyond_text page
     ++ labels_text (strong_top page) page.processors
-    ++ names_text scene (rows_top page) 0 listed
+    ++ tasks_text scene (rows_top page) 0 listed
 
 -- all that stands after them
 unfoldable pub legend_text : Page → List ℕ

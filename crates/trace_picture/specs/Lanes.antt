@@ -1,14 +1,34 @@
--- The bars of the lanes. A bar is a rectangle in the moments of the part, eight high for each lane,
+-- The lanes of processors. A bar is a rectangle in the moments of the part, eight high for each lane,
 -- with a title: the task, the processor, the moments, and the clock of the first one.
-use Rattle.std.specs.Prelude.{ℕ, ◌+◌, ◌-◌, ◌*◌, ◌%◌, min, Bool, false, nat_le, List, [], ◌++◌, codes}
+use Rattle.std.specs.Prelude.{ℕ, ◌+◌, ◌-◌, ◌*◌, ◌/◌, ◌%◌, Bool, false, nat_le, nat_lt, List, [], ◌++◌}
+use Rattle.std.specs.Prelude.{length, codes, Option, Some, None, if◌then◌else◌}
+use Rattle.std.specs.List.{flat_map}
 use Rattle.affinity_mask.specs.Number.{canonical_number}
 use Rattle.kernel_trace.specs.StampText.{stamp_text, clock_after}
 use Rattle.text_fields.specs.EventText.{name_of}
 use Rattle.trace_bars.specs.declared.mark.Bar.{Bar}
 use Rattle.trace_bars.specs.declared.mark.Mark.{Mark}
 use Rattle.trace_bars.specs.declared.mark.Mark.TheVariants.{Runs, Linked, Ran, Lost, Waits}
-use Rattle.trace_picture.specs.Scene.{SceneData}
+use Rattle.trace_picture.specs.Around.{group_head}
+use Rattle.trace_picture.specs.Scene.{SceneData, across, lane_of, span_of}
 
+-- the processor that a bar of a lane is on
+abbrev pub processor_of : Mark → Option ℕ
+processor_of (Runs p) = Some p
+processor_of (Linked p) = Some p
+processor_of Ran = None
+processor_of Lost = None
+processor_of Waits = None
+
+-- a bar is on a processor beyond so many
+abbrev pub is_beyond_at : ℕ → Option ℕ → Bool
+is_beyond_at processors None = false
+is_beyond_at processors (Some p) = nat_le processors p
+
+abbrev pub is_beyond : ℕ → Bar → Bool
+is_beyond processors bar = is_beyond_at processors (processor_of bar.mark)
+
+-- ---- bars
 -- when a bar begins and ends, at the end of its title
 unfoldable pub extent_text : SceneData → Bar → List ℕ
 extent_text scene bar =
@@ -16,47 +36,46 @@ extent_text scene bar =
     ++ codes " at " ++ stamp_text (clock_after scene.clock bar.from)
     ++ codes "</title></rect>\n"
 
--- the bar of a processor in this lane
-unfoldable pub lane_text : SceneData → ℕ → ℕ → Bar → List ℕ
-lane_text scene lane p bar =
+-- the bar of a processor
+unfoldable pub bar_text : SceneData → ℕ → Bar → List ℕ
+bar_text scene p bar =
     codes "<rect class=\"c" ++ canonical_number (bar.thread % 24)
     ++ codes "\" x=\"" ++ canonical_number (bar.from - scene.part.from)
-    ++ codes "\" y=\"" ++ canonical_number (8 * lane + 1)
+    ++ codes "\" y=\"" ++ canonical_number (8 * lane_of scene p + 1)
     ++ codes "\" width=\"" ++ canonical_number (bar.to - bar.from)
     ++ codes "\" height=\"6\"><title>" ++ name_of scene.set bar.thread
     ++ codes " on cpu " ++ canonical_number p ++ extent_text scene bar
 
--- ---- the trace
--- the bar is on a processor beyond so many
-abbrev pub is_beyond_by : ℕ → Mark → Bool
-is_beyond_by processors (Runs p) = nat_le processors p
-is_beyond_by processors (Linked p) = false
-is_beyond_by processors Ran = false
-is_beyond_by processors Lost = false
-is_beyond_by processors Waits = false
+abbrev pub bar_text_at : SceneData → Option ℕ → Bar → List ℕ
+bar_text_at scene None bar = []
+bar_text_at scene (Some p) bar = bar_text scene p bar
 
-abbrev pub is_beyond : ℕ → Bar → Bool
-is_beyond processors bar = is_beyond_by processors bar.mark
+unfoldable pub lane_bar : SceneData → Bar → List ℕ
+lane_bar scene bar = bar_text_at scene (processor_of bar.mark) bar
 
--- a thread that runs, in the lane of its processor; those beyond have one lane, after the others
-abbrev pub trace_bar_by : SceneData → ℕ → Bar → Mark → List ℕ
-trace_bar_by scene processors bar (Runs p) = lane_text scene (min p processors) p bar
-trace_bar_by scene processors bar (Linked p) = []
-trace_bar_by scene processors bar Ran = []
-trace_bar_by scene processors bar Lost = []
-trace_bar_by scene processors bar Waits = []
+-- ---- names
+-- where the name of a bar fits on the page, seven for each byte and six more, it stands in its
+-- middle
+unfoldable pub name_text : SceneData → ℕ → ℕ → Bar → List ℕ
+name_text scene top p bar =
+    if nat_lt (across scene.part bar.to)
+    (across scene.part bar.from + 7 * length (name_of scene.set bar.thread) + 6) then []
+    else codes "<text x=\""
+    ++ canonical_number ((across scene.part bar.from + across scene.part bar.to) / 2)
+    ++ codes "\" y=\"" ++ canonical_number (top + 24 * lane_of scene p + 16)
+    ++ codes "\" text-anchor=\"middle\" pointer-events=\"none\">" ++ name_of scene.set bar.thread
+    ++ codes "</text>\n"
 
-unfoldable pub trace_bar : SceneData → ℕ → Bar → List ℕ
-trace_bar scene processors bar = trace_bar_by scene processors bar bar.mark
+abbrev pub name_text_at : SceneData → ℕ → Option ℕ → Bar → List ℕ
+name_text_at scene top None bar = []
+name_text_at scene top (Some p) bar = name_text scene top p bar
 
--- ---- strong scheduling
--- a task that is linked, in the lane of its processor
-abbrev pub strong_bar_by : SceneData → Bar → Mark → List ℕ
-strong_bar_by scene bar (Linked p) = lane_text scene p p bar
-strong_bar_by scene bar (Runs p) = []
-strong_bar_by scene bar Ran = []
-strong_bar_by scene bar Lost = []
-strong_bar_by scene bar Waits = []
+unfoldable pub lane_name : SceneData → ℕ → Bar → List ℕ
+lane_name scene top bar = name_text_at scene top (processor_of bar.mark) bar
 
-unfoldable pub strong_bar : SceneData → Bar → List ℕ
-strong_bar scene bar = strong_bar_by scene bar bar.mark
+-- ---- together
+-- so many lanes, which begin here from above: a group of the bars, and then the names
+unfoldable pub lanes_text : SceneData → ℕ → ℕ → List Bar → List ℕ
+lanes_text scene top lanes bars =
+    group_head (span_of scene.part) top (24 * lanes) (8 * lanes)
+    ++ flat_map (lane_bar scene) bars ++ codes "</svg>\n" ++ flat_map (lane_name scene top) bars

@@ -3,11 +3,10 @@
 -- them.
 use Rattle.std.specs.Prelude.{◌≡◌, ℕ, ◌+◌, ◌*◌, ◌≤◌, List, ◌++◌, length, codes, if◌then◌else◌}
 use Rattle.std.specs.List.{flat_map, list_any}
-use Rattle.affinity_mask.specs.Number.{canonical_number}
 use Rattle.trace_bars.specs.declared.bars.Bars.{Bars}
 use Rattle.trace_bars.specs.declared.mark.Bar.{Bar}
-use Rattle.trace_picture.specs.Around.{around_text, legend_text}
-use Rattle.trace_picture.specs.Lanes.{is_beyond, strong_bar, trace_bar}
+use Rattle.trace_picture.specs.Around.{around_text, group_head, legend_text}
+use Rattle.trace_picture.specs.Lanes.{is_beyond, lanes_text}
 use Rattle.trace_picture.specs.Listing.{listed_of}
 use Rattle.trace_picture.specs.Page.{rows_top, strong_top}
 use Rattle.trace_picture.specs.Rows.{row_bar}
@@ -20,25 +19,7 @@ abbrev pub lanes_of : ℕ → List Bar → ℕ
 lanes_of processors bars =
     if list_any (is_beyond processors) bars then processors + 1 else processors
 
--- a group begins with its place on the page and its view box: the part, and eight for each lane or
--- row
-unfoldable pub group_head : ℕ → ℕ → ℕ → ℕ → List ℕ
-group_head span top high eighths =
-    codes "<svg x=\"200\" y=\"" ++ canonical_number top
-    ++ codes "\" width=\"1000\" height=\"" ++ canonical_number high
-    ++ codes "\" viewBox=\"0 0 " ++ canonical_number span ++ codes " " ++ canonical_number eighths
-    ++ codes "\" preserveAspectRatio=\"none\">\n"
-
-unfoldable pub trace_group : SceneData → Page → List Bar → List ℕ
-trace_group scene page bars =
-    group_head (span_of scene.part) 56 (24 * page.lanes) (8 * page.lanes)
-    ++ flat_map (trace_bar scene page.processors) bars ++ codes "</svg>\n"
-
-unfoldable pub strong_group : SceneData → Page → List Bar → List ℕ
-strong_group scene page bars =
-    group_head (span_of scene.part) (strong_top page) (24 * page.processors) (8 * page.processors)
-    ++ flat_map (strong_bar scene) bars ++ codes "</svg>\n"
-
+-- a group of the rows
 unfoldable pub rows_group : SceneData → Page → List ℕ → List Bar → List ℕ
 rows_group scene page listed bars =
     group_head (span_of scene.part) (rows_top page) (16 * page.rows) (8 * page.rows)
@@ -47,8 +28,9 @@ rows_group scene page listed bars =
 -- the whole, for an axis with lines at the multiples of a step
 unfoldable pub drawn_text : SceneData → Page → List ℕ → ℕ → Bars → List ℕ
 drawn_text scene page listed step bars =
-    around_text scene page listed step ++ trace_group scene page bars.trace.items
-    ++ strong_group scene page bars.strong.items ++ rows_group scene page listed bars.rows.items
+    around_text scene page listed step ++ lanes_text scene 56 page.lanes bars.trace.items
+    ++ lanes_text scene (strong_top page) page.processors bars.strong.items
+    ++ rows_group scene page listed bars.rows.items
     ++ legend_text page ++ codes "</svg>\n"
 
 -- the page for these bars

@@ -1,8 +1,8 @@
 //! What stands around the bars of a picture: the title, the axis, the names and the legend.
 ghost use Rattle.std.specs.Prelude.{◌≡◌, ◌≤◌, ◌++◌, OnOk};
 ghost use Rattle.std.specs.List.{flat_map, range_with_len};
-ghost use Rattle.trace_picture.specs.Around.{around_text, opening_text, title_text, headings_text, tick_text, tick_at, axis_text, label_text, labels_text, other_text, beyond_text, name_text, names_text, legend_text};
-ghost use Rattle.trace_picture.specs.Scene.{scene_of};
+ghost use Rattle.trace_picture.specs.Around.{around_text, opening_text, title_text, headings_text, tick_text, tick_at, axis_text, label_text, labels_text, other_text, beyond_text, task_text, tasks_text, group_head, legend_text};
+ghost use Rattle.trace_picture.specs.Scene.{scene_of, span_of};
 
 use crate::page::{LANE, Page, ROW, TOP};
 use crate::scene::Scene;
@@ -44,7 +44,7 @@ pub(crate) fn write_around(
     write_labels(text, scene, TOP, page.processors)?;
     write_beyond(text, scene, page)?;
     write_labels(text, scene, page.strong_top(), page.processors)?;
-    write_names(text, scene, page.rows_top(), listed)
+    write_tasks(text, scene, page.rows_top(), listed)
 }
 
 /// Appends the beginning of the page.
@@ -221,23 +221,23 @@ fn write_other(text: &mut Vec<u8>, scene: &Scene, lane: u8) -> Result<(), OutOfM
 }
 
 /// Appends the colours and the names of the tasks that are listed, and a line below each row.
-fn write_names(
+fn write_tasks(
     text: &mut Vec<u8>,
     scene: &Scene,
     top: u32,
     listed: &[usize],
 ) -> Result<(), OutOfMemory>
     ensures { OnOk result (text.new.items ≡ text.old.items
-        ++ names_text (scene_of scene.now) top 0 listed.now) }
+        ++ tasks_text (scene_of scene.now) top 0 listed.now) }
 {
     for k in 0..listed.len() {
-        write_name(text, scene, top, k, listed[k])?;
+        write_task(text, scene, top, k, listed[k])?;
     }
     Ok(())
 }
 
 /// Appends those of a task.
-fn write_name(
+fn write_task(
     text: &mut Vec<u8>,
     scene: &Scene,
     top: u32,
@@ -245,7 +245,7 @@ fn write_name(
     task: usize,
 ) -> Result<(), OutOfMemory>
     ensures { OnOk result (text.new.items ≡ text.old.items
-        ++ name_text (scene_of scene.now) top k task) }
+        ++ task_text (scene_of scene.now) top k task) }
 {
     let row = u128::from(top) + u128::from(ROW) * k as u128;
     let box_top = row + 3;
@@ -255,6 +255,24 @@ fn write_name(
     let name = scene.name(task);
     let line = format!(in scene.alloc;
         "<rect class=\"c{colour}\" x=\"4\" y=\"{box_top}\" width=\"10\" height=\"10\"/><text x=\"20\" y=\"{y}\">{name}</text><path d=\"M200,{under} h1000\" stroke=\"#eee\"/>\n"
+    )?;
+    put(text, &line)
+}
+
+/// Appends the beginning of a group of bars, with its place on the page and its view box: the part, and eight for each lane or row.
+pub(crate) fn write_head(
+    text: &mut Vec<u8>,
+    scene: &Scene,
+    top: u32,
+    high: u32,
+    eighths: u32,
+) -> Result<(), OutOfMemory>
+    ensures { OnOk result (text.new.items ≡ text.old.items
+        ++ group_head (span_of scene.now.part) top high eighths) }
+{
+    let span = scene.span();
+    let line = format!(in scene.alloc;
+        "<svg x=\"200\" y=\"{top}\" width=\"1000\" height=\"{high}\" viewBox=\"0 0 {span} {eighths}\" preserveAspectRatio=\"none\">\n"
     )?;
     put(text, &line)
 }

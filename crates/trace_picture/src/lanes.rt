@@ -1,10 +1,11 @@
-//! The bars of the lanes: of the processors as the trace has them, and as strong scheduling has them.
-ghost use Rattle.std.specs.Prelude.{◌≡◌, ◌++◌, ◌≤◌, OnOk};
+//! The lanes of processors: a bar for each stay of a thread, and its name where that fits.
+ghost use Rattle.std.specs.Prelude.{◌≡◌, ◌++◌, OnOk};
 ghost use Rattle.std.specs.List.{flat_map, list_any};
-ghost use Rattle.trace_picture.specs.Lanes.{extent_text, lane_text, is_beyond, trace_bar, strong_bar};
+ghost use Rattle.trace_picture.specs.Lanes.{processor_of, extent_text, bar_text, name_text, is_beyond, lane_bar, lane_name, lanes_text};
 ghost use Rattle.trace_picture.specs.Scene.{scene_of};
 
-use crate::around::put;
+use crate::around::{put, write_head};
+use crate::page::LANE;
 use crate::scene::Scene;
 use affinity_mask::OutOfMemory;
 use kernel_trace::stamp_text::write_stamp_after;
@@ -21,83 +22,70 @@ pub(crate) fn has_beyond(processors: u8, bars: &[Bar]) -> bool
 fn is_beyond(processors: u8, bar: Bar) -> bool
     ensures { result ≡ is_beyond processors bar }
 {
-    match bar.mark {
-        Mark::Runs(p) => u32::from(processors) <= p,
-        Mark::Linked(_) | Mark::Ran | Mark::Lost | Mark::Waits => false,
+    match processor_of(bar.mark) {
+        Some(p) => u32::from(processors) <= p,
+        None => false,
     }
 }
 
-/// Appends the bars of the lanes of the trace.
-pub(crate) fn write_trace(
+/// The processor that a bar of a lane is on.
+fn processor_of(mark: Mark) -> Option<u32>
+    ensures { result ≡ processor_of mark }
+{
+    match mark {
+        Mark::Runs(p) => Some(p),
+        Mark::Linked(p) => Some(u32::from(p)),
+        Mark::Ran | Mark::Lost | Mark::Waits => None,
+    }
+}
+
+/// Appends so many lanes, which begin here from above: the bars, and then the names.
+pub(crate) fn write_lanes(
     text: &mut Vec<u8>,
     scene: &Scene,
-    processors: u8,
+    top: u32,
+    lanes: u8,
     bars: &[Bar],
 ) -> Result<(), OutOfMemory>
     ensures { OnOk result (text.new.items ≡ text.old.items
-        ++ flat_map (trace_bar (scene_of scene.now) processors) bars.now) }
+        ++ lanes_text (scene_of scene.now) top lanes bars.now) }
+{
+    let count = u32::from(lanes);
+    write_head(text, scene, top, LANE * count, 8 * count)?;
+    write_bars(text, scene, bars)?;
+    put(text, "</svg>\n")?;
+    write_names(text, scene, top, bars)
+}
+
+/// Appends the bars of the lanes.
+fn write_bars(text: &mut Vec<u8>, scene: &Scene, bars: &[Bar]) -> Result<(), OutOfMemory>
+    ensures { OnOk result (text.new.items ≡ text.old.items
+        ++ flat_map (lane_bar (scene_of scene.now)) bars.now) }
 {
     for bar in bars {
-        write_trace_bar(text, scene, processors, *bar)?;
+        write_lane_bar(text, scene, *bar)?;
     }
     Ok(())
 }
 
-/// Appends a bar of the lanes of the trace. The processors beyond have one lane, after the others.
-fn write_trace_bar(
-    text: &mut Vec<u8>,
-    scene: &Scene,
-    processors: u8,
-    bar: Bar,
-) -> Result<(), OutOfMemory>
-    ensures { OnOk result (text.new.items ≡ text.old.items
-        ++ trace_bar (scene_of scene.now) processors bar) }
+/// Appends a bar, where it is one of a lane.
+#[tactic(auto, unfolding(crate::specs::Lanes::lane_bar))]
+fn write_lane_bar(text: &mut Vec<u8>, scene: &Scene, bar: Bar) -> Result<(), OutOfMemory>
+    ensures { OnOk result (text.new.items ≡ text.old.items ++ lane_bar (scene_of scene.now) bar) }
 {
-    match bar.mark {
-        Mark::Runs(p) => write_lane_bar(text, scene, p.min(u32::from(processors)), p, bar),
-        Mark::Linked(_) | Mark::Ran | Mark::Lost | Mark::Waits => Ok(()),
+    match processor_of(bar.mark) {
+        Some(p) => write_bar(text, scene, p, bar),
+        None => Ok(()),
     }
 }
 
-/// Appends the bars of the lanes of strong scheduling.
-pub(crate) fn write_strong(
-    text: &mut Vec<u8>,
-    scene: &Scene,
-    bars: &[Bar],
-) -> Result<(), OutOfMemory>
-    ensures { OnOk result (text.new.items ≡ text.old.items
-        ++ flat_map (strong_bar (scene_of scene.now)) bars.now) }
-{
-    for bar in bars {
-        write_strong_bar(text, scene, *bar)?;
-    }
-    Ok(())
-}
-
-/// Appends a bar of the lanes of strong scheduling.
-fn write_strong_bar(text: &mut Vec<u8>, scene: &Scene, bar: Bar) -> Result<(), OutOfMemory>
-    ensures { OnOk result (text.new.items ≡ text.old.items ++ strong_bar (scene_of scene.now) bar) }
-{
-    match bar.mark {
-        Mark::Linked(p) => write_lane_bar(text, scene, u32::from(p), u32::from(p), bar),
-        Mark::Runs(_) | Mark::Ran | Mark::Lost | Mark::Waits => Ok(()),
-    }
-}
-
-/// Appends a bar of a processor in this lane.
-fn write_lane_bar(
-    text: &mut Vec<u8>,
-    scene: &Scene,
-    lane: u32,
-    p: u32,
-    bar: Bar,
-) -> Result<(), OutOfMemory>
-    ensures { OnOk result (text.new.items ≡ text.old.items
-        ++ lane_text (scene_of scene.now) lane p bar) }
+/// Appends a bar of a processor. Those beyond have one lane, after the others.
+fn write_bar(text: &mut Vec<u8>, scene: &Scene, p: u32, bar: Bar) -> Result<(), OutOfMemory>
+    ensures { OnOk result (text.new.items ≡ text.old.items ++ bar_text (scene_of scene.now) p bar) }
 {
     let colour = bar.thread % 24;
     let x = scene.along(bar.from);
-    let y = 8 * u64::from(lane) + 1;
+    let y = 8 * u64::from(scene.lane(p)) + 1;
     let wide = bar.to.saturating_sub(bar.from);
     let name = scene.name(bar.thread);
     let line = format!(in scene.alloc;
@@ -117,4 +105,52 @@ pub(crate) fn write_extent(text: &mut Vec<u8>, scene: &Scene, bar: Bar) -> Resul
     put(text, &line)?;
     write_stamp_after(text, scene.clock, from)?;
     put(text, "</title></rect>\n")
+}
+
+/// Appends the names of the bars of lanes that begin here from above.
+fn write_names(text: &mut Vec<u8>, scene: &Scene, top: u32, bars: &[Bar]) -> Result<(), OutOfMemory>
+    ensures { OnOk result (text.new.items ≡ text.old.items
+        ++ flat_map (lane_name (scene_of scene.now) top) bars.now) }
+{
+    for bar in bars {
+        write_lane_name(text, scene, top, *bar)?;
+    }
+    Ok(())
+}
+
+/// Appends the name of a bar, where it is one of a lane, and the name fits.
+#[tactic(auto, unfolding(crate::specs::Lanes::lane_name))]
+fn write_lane_name(text: &mut Vec<u8>, scene: &Scene, top: u32, bar: Bar) -> Result<(), OutOfMemory>
+    ensures { OnOk result (text.new.items ≡ text.old.items
+        ++ lane_name (scene_of scene.now) top bar) }
+{
+    match processor_of(bar.mark) {
+        Some(p) => write_name(text, scene, top, p, bar),
+        None => Ok(()),
+    }
+}
+
+/// Appends the name of a bar of a processor, where it fits.
+fn write_name(
+    text: &mut Vec<u8>,
+    scene: &Scene,
+    top: u32,
+    p: u32,
+    bar: Bar,
+) -> Result<(), OutOfMemory>
+    ensures { OnOk result (text.new.items ≡ text.old.items
+        ++ name_text (scene_of scene.now) top p bar) }
+{
+    let begin = scene.across(bar.from);
+    let end = scene.across(bar.to);
+    let name = scene.name(bar.thread);
+    if end < begin + 7 * name.len() as u128 + 6 {
+        return Ok(());
+    }
+    let middle = (begin + end) / 2;
+    let y = u64::from(top) + 24 * u64::from(scene.lane(p)) + 16;
+    let line = format!(in scene.alloc;
+        "<text x=\"{middle}\" y=\"{y}\" text-anchor=\"middle\" pointer-events=\"none\">{name}</text>\n"
+    )?;
+    put(text, &line)
 }

@@ -1,12 +1,12 @@
 //! The picture of a part of a trace.
 ghost use Rattle.std.specs.Prelude.{◌≡◌, ◌++◌, ◌≤◌, OnOk, IfOk};
-ghost use Rattle.trace_picture.specs.Picture.{IsPicture, group_head, trace_group, strong_group, rows_group, lanes_of};
-ghost use Rattle.trace_picture.specs.Scene.{scene_of, span_of};
+ghost use Rattle.trace_picture.specs.Picture.{IsPicture, rows_group, lanes_of};
+ghost use Rattle.trace_picture.specs.Scene.{scene_of};
 
-use crate::around::{put, step_of, write_around, write_legend};
-use crate::lanes::{has_beyond, write_strong, write_trace};
+use crate::around::{put, step_of, write_around, write_head, write_legend};
+use crate::lanes::{has_beyond, write_lanes};
 use crate::listing::listed;
-use crate::page::{LANE, Page, ROW, TOP};
+use crate::page::{Page, ROW, TOP};
 use crate::rows::write_rows;
 use crate::scene::Scene;
 use affinity_mask::OutOfMemory;
@@ -25,8 +25,14 @@ pub fn picture_text(scene: &Scene, bars: &Bars) -> Result<Vec<u8>, OutOfMemory>
     };
     let mut text = Vec::new(scene.alloc);
     write_around(&mut text, scene, page, &listed, step_of(scene.span()))?;
-    write_trace_group(&mut text, scene, page, &bars.trace)?;
-    write_strong_group(&mut text, scene, page, &bars.strong)?;
+    write_lanes(&mut text, scene, TOP, page.lanes, &bars.trace)?;
+    write_lanes(
+        &mut text,
+        scene,
+        page.strong_top(),
+        processors,
+        &bars.strong,
+    )?;
     write_rows_group(&mut text, scene, page, &listed, &bars.rows)?;
     write_legend(&mut text, scene, page)?;
     put(&mut text, "</svg>\n")?;
@@ -45,38 +51,6 @@ fn lanes_of(processors: u8, bars: &[Bar]) -> u8
     }
 }
 
-/// Appends the lanes of the trace.
-fn write_trace_group(
-    text: &mut Vec<u8>,
-    scene: &Scene,
-    page: Page,
-    bars: &[Bar],
-) -> Result<(), OutOfMemory>
-    ensures { OnOk result (text.new.items ≡ text.old.items
-        ++ trace_group (scene_of scene.now) page bars.now) }
-{
-    let lanes = u32::from(page.lanes);
-    write_head(text, scene, TOP, LANE * lanes, 8 * lanes)?;
-    write_trace(text, scene, page.processors, bars)?;
-    put(text, "</svg>\n")
-}
-
-/// Appends the lanes of strong scheduling.
-fn write_strong_group(
-    text: &mut Vec<u8>,
-    scene: &Scene,
-    page: Page,
-    bars: &[Bar],
-) -> Result<(), OutOfMemory>
-    ensures { OnOk result (text.new.items ≡ text.old.items
-        ++ strong_group (scene_of scene.now) page bars.now) }
-{
-    let lanes = u32::from(page.processors);
-    write_head(text, scene, page.strong_top(), LANE * lanes, 8 * lanes)?;
-    write_strong(text, scene, bars)?;
-    put(text, "</svg>\n")
-}
-
 /// Appends the rows.
 fn write_rows_group(
     text: &mut Vec<u8>,
@@ -92,22 +66,4 @@ fn write_rows_group(
     write_head(text, scene, page.rows_top(), ROW * rows, 8 * rows)?;
     write_rows(text, scene, listed, bars)?;
     put(text, "</svg>\n")
-}
-
-/// Appends the beginning of a group of bars, with its place on the page and its view box: the part, and eight for each lane or row.
-fn write_head(
-    text: &mut Vec<u8>,
-    scene: &Scene,
-    top: u32,
-    high: u32,
-    eighths: u32,
-) -> Result<(), OutOfMemory>
-    ensures { OnOk result (text.new.items ≡ text.old.items
-        ++ group_head (span_of scene.now.part) top high eighths) }
-{
-    let span = scene.span();
-    let line = format!(in scene.alloc;
-        "<svg x=\"200\" y=\"{top}\" width=\"1000\" height=\"{high}\" viewBox=\"0 0 {span} {eighths}\" preserveAspectRatio=\"none\">\n"
-    )?;
-    put(text, &line)
 }

@@ -1,7 +1,7 @@
 //! What is drawn: the tasks, the clock, and the part of the trace.
 ghost use Rattle.std.specs.Prelude.{◌≡◌, ◌≤◌, ◌-◌};
 ghost use Rattle.text_fields.specs.EventText.{name_of};
-ghost use Rattle.trace_picture.specs.Scene.{across, colour_of, span_of};
+ghost use Rattle.trace_picture.specs.Scene.{across, lane_of, scene_of, span_of};
 
 use std::alloc::Global;
 use task_set::TaskSet;
@@ -37,6 +37,13 @@ impl Scene<'_> {
         ensures { result ≡ across self.now.part moment }
     {
         200 + u128::from(self.along(moment)) * 1000 / u128::from(self.span())
+    }
+
+    /// The lane of a processor. All processors beyond have one lane, after the others.
+    pub(crate) fn lane(&self, p: u32) -> u32
+        ensures { result ≡ lane_of (scene_of self.now) p }
+    {
+        p.min(u32::from(self.set.processors()))
     }
 
     /// The name of a thread that is a task. Of another one it is empty.
