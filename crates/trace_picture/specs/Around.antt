@@ -1,6 +1,6 @@
 -- What stands around the bars: the title, the axis, the names and the legend.
 use Rattle.std.specs.Prelude.{ℕ, ◌+◌, ◌-◌, ◌*◌, ◌/◌, ◌%◌, ◌&&◌, nat_le, List, [], ◌∷◌, ◌++◌, length}
-use Rattle.std.specs.Prelude.{codes, if◌then◌else◌}
+use Rattle.std.specs.Prelude.{codes, Option, if◌then◌else◌}
 use Rattle.std.specs.List.{flat_map, range_with_len}
 use Rattle.affinity_mask.specs.Number.{canonical_number}
 use Rattle.kernel_trace.specs.StampText.{stamp_text, clock_after}
@@ -48,20 +48,32 @@ headings_text page =
     ++ canonical_number (rows_top page - 8) ++ codes "\" fill=\"#666\">tasks</text>\n"
 
 -- ---- the axis
--- the line of a moment, with its milliseconds and the clock
-unfoldable pub tick_text : SceneData → ℕ → ℕ → List ℕ
-tick_text scene low moment =
-    codes "<path d=\"M" ++ canonical_number (across scene.part moment)
-    ++ codes ",52 V" ++ canonical_number low
-    ++ codes "\" stroke=\"#ddd\"/><text x=\"" ++ canonical_number (across scene.part moment)
-    ++ codes "\" y=\"" ++ canonical_number (low + 14)
+-- a line at this place from the left
+unfoldable pub tick_line : ℕ → ℕ → List ℕ
+tick_line low x =
+    codes "<path d=\"M" ++ canonical_number x ++ codes ",52 V" ++ canonical_number low
+    ++ codes "\" stroke=\"#ddd\"/>"
+
+-- below it the milliseconds of a moment
+unfoldable pub tick_label : ℕ → ℕ → ℕ → List ℕ
+tick_label low x moment =
+    codes "<text x=\"" ++ canonical_number x ++ codes "\" y=\"" ++ canonical_number (low + 14)
     ++ codes "\" text-anchor=\"middle\">" ++ canonical_number (moment / 1000)
     ++ codes "." ++ canonical_number (moment / 100 % 10) ++ canonical_number (moment / 10 % 10)
-    ++ canonical_number (moment % 10)
-    ++ codes "</text><text x=\"" ++ canonical_number (across scene.part moment)
-    ++ codes "\" y=\"" ++ canonical_number (low + 27)
+    ++ canonical_number (moment % 10) ++ codes "</text>"
+
+-- and below these the clock
+unfoldable pub tick_stamp : Option ℕ → ℕ → ℕ → ℕ → List ℕ
+tick_stamp clock low x moment =
+    codes "<text x=\"" ++ canonical_number x ++ codes "\" y=\"" ++ canonical_number (low + 27)
     ++ codes "\" text-anchor=\"middle\" font-size=\"9\" fill=\"#666\">"
-    ++ stamp_text (clock_after scene.clock moment) ++ codes "</text>\n"
+    ++ stamp_text (clock_after clock moment) ++ codes "</text>\n"
+
+-- the three of a moment
+unfoldable pub tick_text : SceneData → ℕ → ℕ → List ℕ
+tick_text scene low moment =
+    tick_line low (across scene.part moment) ++ tick_label low (across scene.part moment) moment
+    ++ tick_stamp scene.clock low (across scene.part moment) moment
 
 -- the i-th multiple of the step from the last one on that is not after the beginning of the part
 abbrev pub tick_moment : SceneData → ℕ → ℕ → ℕ
@@ -139,25 +151,38 @@ around_text scene page listed step =
     ++ labels_text (strong_top page) page.processors
     ++ tasks_text scene (rows_top page) 0 listed
 
--- all that stands after them
+-- ---- the legend
+-- the colours of tasks, of which three stand for all
+unfoldable pub legend_of_tasks : ℕ → List ℕ
+legend_of_tasks low =
+    codes "<rect class=\"c0\" x=\"200\" y=\"" ++ canonical_number (low + 41)
+    ++ codes "\" width=\"8\" height=\"9\"/><rect class=\"c1\" x=\"208\" y=\""
+    ++ canonical_number (low + 41)
+    ++ codes "\" width=\"8\" height=\"9\"/><rect class=\"c2\" x=\"216\" y=\""
+    ++ canonical_number (low + 41)
+    ++ codes "\" width=\"8\" height=\"9\"/><text x=\"228\" y=\"" ++ canonical_number (low + 50)
+    ++ codes "\" fill=\"#666\">ran</text>"
+
+-- the colour of a class, and what it means
+unfoldable pub meaning_text : ℕ → ℕ → List ℕ → List ℕ
+meaning_text low x meaning =
+    codes "<text x=\"" ++ canonical_number x ++ codes "\" y=\"" ++ canonical_number (low + 50)
+    ++ codes "\" fill=\"#666\">" ++ meaning ++ codes "</text>"
+
+unfoldable pub legend_of : ℕ → ℕ → List ℕ → List ℕ → List ℕ
+legend_of low x class meaning =
+    codes "<rect class=\"" ++ class ++ codes "\" x=\"" ++ canonical_number x
+    ++ codes "\" y=\"" ++ canonical_number (low + 41)
+    ++ codes "\" width=\"24\" height=\"9\"/>" ++ meaning_text low (x + 28) meaning
+
+unfoldable pub legend_of_white : ℕ → List ℕ
+legend_of_white low =
+    codes "<text x=\"770\" y=\"" ++ canonical_number (low + 50)
+    ++ codes "\" fill=\"#666\">white in a lane: idle, or a thread that is no task</text>\n"
+
 unfoldable pub legend_text : Page → List ℕ
 legend_text page =
-    codes "<rect class=\"c0\" x=\"200\" y=\""
-    ++ canonical_number (bottom page + 41)
-    ++ codes "\" width=\"8\" height=\"9\"/><rect class=\"c1\" x=\"208\" y=\""
-    ++ canonical_number (bottom page + 41)
-    ++ codes "\" width=\"8\" height=\"9\"/><rect class=\"c2\" x=\"216\" y=\""
-    ++ canonical_number (bottom page + 41)
-    ++ codes "\" width=\"8\" height=\"9\"/><text x=\"228\" y=\""
-    ++ canonical_number (bottom page + 50)
-    ++ codes "\" fill=\"#666\">ran</text><rect class=\"lost\" x=\"262\" y=\""
-    ++ canonical_number (bottom page + 41)
-    ++ codes "\" width=\"24\" height=\"9\"/><text x=\"290\" y=\""
-    ++ canonical_number (bottom page + 50)
-    ++ codes "\" fill=\"#666\">lost: in the best set, and ran nowhere</text><rect class=\"waited\" x=\"522\" y=\""
-    ++ canonical_number (bottom page + 41)
-    ++ codes "\" width=\"24\" height=\"9\"/><text x=\"550\" y=\""
-    ++ canonical_number (bottom page + 50)
-    ++ codes "\" fill=\"#666\">waited, as under strong scheduling</text><text x=\"770\" y=\""
-    ++ canonical_number (bottom page + 50)
-    ++ codes "\" fill=\"#666\">white in a lane: idle, or a thread that is no task</text>\n"
+    legend_of_tasks (bottom page)
+    ++ legend_of (bottom page) 262 (codes "lost") (codes "lost: in the best set, and ran nowhere")
+    ++ legend_of (bottom page) 522 (codes "waited") (codes "waited, as under strong scheduling")
+    ++ legend_of_white (bottom page)

@@ -54,17 +54,22 @@ unfoldable pub lane_bar : SceneData → Bar → List ℕ
 lane_bar scene bar = bar_text_at scene (processor_of bar.mark) bar
 
 -- ---- names
--- where the name of a bar fits on the page, seven for each byte and six more, it stands in its
--- middle
-unfoldable pub name_text : SceneData → ℕ → ℕ → Bar → List ℕ
-name_text scene top p bar =
-    if nat_lt (across scene.part bar.to)
-    (across scene.part bar.from + 7 * length (name_of scene.set bar.thread) + 6) then []
-    else codes "<text x=\""
-    ++ canonical_number ((across scene.part bar.from + across scene.part bar.to) / 2)
+-- the name of a bar does not fit on the page, with seven for each byte and six more
+abbrev pub is_narrow : SceneData → Bar → Bool
+is_narrow scene bar = nat_lt (across scene.part bar.to)
+    (across scene.part bar.from + 7 * length (name_of scene.set bar.thread) + 6)
+
+-- the name of a bar in its middle
+unfoldable pub middle_text : SceneData → ℕ → ℕ → Bar → List ℕ
+middle_text scene top p bar =
+    codes "<text x=\"" ++ canonical_number ((across scene.part bar.from + across scene.part bar.to) / 2)
     ++ codes "\" y=\"" ++ canonical_number (top + 24 * lane_of scene p + 16)
     ++ codes "\" text-anchor=\"middle\" pointer-events=\"none\">" ++ name_of scene.set bar.thread
     ++ codes "</text>\n"
+
+-- the same, where it fits
+unfoldable pub name_text : SceneData → ℕ → ℕ → Bar → List ℕ
+name_text scene top p bar = if is_narrow scene bar then [] else middle_text scene top p bar
 
 abbrev pub name_text_at : SceneData → ℕ → Option ℕ → Bar → List ℕ
 name_text_at scene top None bar = []

@@ -25,27 +25,32 @@ rows_group scene page listed bars =
     group_head (span_of scene.part) (rows_top page) (16 * page.rows) (8 * page.rows)
     ++ flat_map (row_bar scene listed) bars ++ codes "</svg>\n"
 
--- the whole, for an axis with lines at the multiples of a step
+-- the page for these bars and rows
+abbrev pub page_for : ℕ → Bars → List ℕ → Page
+page_for processors bars listed = record {
+  processors = processors;
+  lanes = lanes_of processors bars.trace.items;
+  rows = length listed;
+}
+
+-- the whole on a page, for an axis with lines at the multiples of a step
 unfoldable pub drawn_text : SceneData → Page → List ℕ → ℕ → Bars → List ℕ
 drawn_text scene page listed step bars =
     around_text scene page listed step ++ lanes_text scene 56 page.lanes bars.trace.items
     ++ lanes_text scene (strong_top page) page.processors bars.strong.items
-    ++ rows_group scene page listed bars.rows.items
-    ++ legend_text page ++ codes "</svg>\n"
+    ++ rows_group scene page listed bars.rows.items ++ legend_text page ++ codes "</svg>\n"
 
--- the page for these bars
+-- the tasks that have a row
 abbrev pub listed_in : SceneData → Bars → List ℕ
 listed_in scene bars = listed_of (length scene.set.tasks) bars.rows.items
 
-abbrev pub page_for : SceneData → Bars → Page
-page_for scene bars = record {
-  processors = scene.set.processors;
-  lanes = lanes_of scene.set.processors bars.trace.items;
-  rows = length (listed_in scene bars);
-}
+-- the same with the rows of these tasks
+abbrev pub text_for : SceneData → List ℕ → ℕ → Bars → List ℕ
+text_for scene listed step bars =
+    drawn_text scene (page_for scene.set.processors bars listed) listed step bars
 
 -- the text is the picture of these bars, with some step of the axis
 pub record IsPicture (scene : SceneData) (bars : Bars) (text : List ℕ) : Type 0 where
   pub step : ℕ
   pub some : 1 ≤ step
-  pub is : text ≡ drawn_text scene (page_for scene bars) (listed_in scene bars) step bars
+  pub is : text ≡ text_for scene (listed_in scene bars) step bars

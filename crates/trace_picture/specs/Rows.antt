@@ -17,15 +17,22 @@ word_of Ran = codes "ran"
 word_of Lost = codes "lost"
 word_of Waits = codes "waited"
 
--- a bar in this row, of the class that the word names: `lost` is red
-unfoldable pub row_text : SceneData → ℕ → Bar → List ℕ
-row_text scene row bar =
+-- where the bar is in this row, of the class that the word names: `lost` is red
+unfoldable pub rect_text : SceneData → ℕ → Bar → List ℕ
+rect_text scene row bar =
     codes "<rect class=\"c" ++ canonical_number (bar.thread % 24) ++ codes " " ++ word_of bar.mark
     ++ codes "\" x=\"" ++ canonical_number (bar.from - scene.part.from)
     ++ codes "\" y=\"" ++ canonical_number (8 * row + 2)
-    ++ codes "\" width=\"" ++ canonical_number (bar.to - bar.from)
-    ++ codes "\" height=\"4\"><title>" ++ name_of scene.set bar.thread
-    ++ codes " " ++ word_of bar.mark ++ extent_text scene bar
+    ++ codes "\" width=\"" ++ canonical_number (bar.to - bar.from) ++ codes "\" height=\"4\">"
+
+-- of whom it says what
+unfoldable pub title_text : SceneData → Bar → List ℕ
+title_text scene bar =
+    codes "<title>" ++ name_of scene.set bar.thread ++ codes " " ++ word_of bar.mark
+
+-- a bar in this row
+unfoldable pub row_text : SceneData → ℕ → Bar → List ℕ
+row_text scene row bar = rect_text scene row bar ++ title_text scene bar ++ extent_text scene bar
 
 abbrev pub is_task : ℕ → ℕ → Bool
 is_task thread task = task == thread

@@ -1,7 +1,7 @@
 //! The lanes of processors: a bar for each stay of a thread, and its name where that fits.
 ghost use Rattle.std.specs.Prelude.{◌≡◌, ◌++◌, OnOk};
 ghost use Rattle.std.specs.List.{flat_map, list_any};
-ghost use Rattle.trace_picture.specs.Lanes.{processor_of, extent_text, bar_text, name_text, is_beyond, lane_bar, lane_name, lanes_text};
+ghost use Rattle.trace_picture.specs.Lanes.{processor_of, extent_text, bar_text, name_text, middle_text, is_beyond, is_narrow, lane_bar, lane_name, lanes_text};
 ghost use Rattle.trace_picture.specs.Scene.{scene_of};
 
 use crate::around::{put, write_head};
@@ -40,6 +40,7 @@ fn processor_of(mark: Mark) -> Option<u32>
 }
 
 /// Appends so many lanes, which begin here from above: the bars, and then the names.
+#[tactic(auto, unfolding(crate::specs::Lanes::lanes_text))]
 pub(crate) fn write_lanes(
     text: &mut Vec<u8>,
     scene: &Scene,
@@ -54,7 +55,8 @@ pub(crate) fn write_lanes(
     write_head(text, scene, top, LANE * count, 8 * count)?;
     write_bars(text, scene, bars)?;
     put(text, "</svg>\n")?;
-    write_names(text, scene, top, bars)
+    write_names(text, scene, top, bars)?;
+    Ok(())
 }
 
 /// Appends the bars of the lanes.
@@ -80,6 +82,7 @@ fn write_lane_bar(text: &mut Vec<u8>, scene: &Scene, bar: Bar) -> Result<(), Out
 }
 
 /// Appends a bar of a processor. Those beyond have one lane, after the others.
+#[tactic(auto, unfolding(crate::specs::Lanes::bar_text))]
 fn write_bar(text: &mut Vec<u8>, scene: &Scene, p: u32, bar: Bar) -> Result<(), OutOfMemory>
     ensures { OnOk result (text.new.items ≡ text.old.items ++ bar_text (scene_of scene.now) p bar) }
 {
@@ -92,10 +95,12 @@ fn write_bar(text: &mut Vec<u8>, scene: &Scene, p: u32, bar: Bar) -> Result<(), 
         "<rect class=\"c{colour}\" x=\"{x}\" y=\"{y}\" width=\"{wide}\" height=\"6\"><title>{name} on cpu {p}"
     )?;
     put(text, &line)?;
-    write_extent(text, scene, bar)
+    write_extent(text, scene, bar)?;
+    Ok(())
 }
 
 /// Appends when a bar begins and ends, and the end of its element.
+#[tactic(auto, unfolding(crate::specs::Lanes::extent_text))]
 pub(crate) fn write_extent(text: &mut Vec<u8>, scene: &Scene, bar: Bar) -> Result<(), OutOfMemory>
     ensures { OnOk result (text.new.items ≡ text.old.items ++ extent_text (scene_of scene.now) bar) }
 {
@@ -104,7 +109,8 @@ pub(crate) fn write_extent(text: &mut Vec<u8>, scene: &Scene, bar: Bar) -> Resul
     let line = format!(in scene.alloc; " from {from} to {to} at ")?;
     put(text, &line)?;
     write_stamp_after(text, scene.clock, from)?;
-    put(text, "</title></rect>\n")
+    put(text, "</title></rect>\n")?;
+    Ok(())
 }
 
 /// Appends the names of the bars of lanes that begin here from above.
@@ -131,6 +137,7 @@ fn write_lane_name(text: &mut Vec<u8>, scene: &Scene, top: u32, bar: Bar) -> Res
 }
 
 /// Appends the name of a bar of a processor, where it fits.
+#[tactic(auto, unfolding(crate::specs::Lanes::name_text))]
 fn write_name(
     text: &mut Vec<u8>,
     scene: &Scene,
@@ -141,16 +148,38 @@ fn write_name(
     ensures { OnOk result (text.new.items ≡ text.old.items
         ++ name_text (scene_of scene.now) top p bar) }
 {
-    let begin = scene.across(bar.from);
-    let end = scene.across(bar.to);
-    let name = scene.name(bar.thread);
-    if end < begin + 7 * name.len() as u128 + 6 {
+    if is_narrow(scene, bar) {
         return Ok(());
     }
-    let middle = (begin + end) / 2;
+    write_middle(text, scene, top, p, bar)
+}
+
+/// Whether the name of a bar does not fit.
+fn is_narrow(scene: &Scene, bar: Bar) -> bool
+    ensures { result ≡ is_narrow (scene_of scene.now) bar }
+{
+    let name = scene.name(bar.thread);
+    scene.across(bar.to) < scene.across(bar.from) + 7 * name.len() as u128 + 6
+}
+
+/// Appends the name of a bar of a processor in its middle.
+#[tactic(auto, unfolding(crate::specs::Lanes::middle_text))]
+fn write_middle(
+    text: &mut Vec<u8>,
+    scene: &Scene,
+    top: u32,
+    p: u32,
+    bar: Bar,
+) -> Result<(), OutOfMemory>
+    ensures { OnOk result (text.new.items ≡ text.old.items
+        ++ middle_text (scene_of scene.now) top p bar) }
+{
+    let middle = (scene.across(bar.from) + scene.across(bar.to)) / 2;
+    let name = scene.name(bar.thread);
     let y = u64::from(top) + 24 * u64::from(scene.lane(p)) + 16;
     let line = format!(in scene.alloc;
         "<text x=\"{middle}\" y=\"{y}\" text-anchor=\"middle\" pointer-events=\"none\">{name}</text>\n"
     )?;
-    put(text, &line)
+    put(text, &line)?;
+    Ok(())
 }

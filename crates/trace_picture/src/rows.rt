@@ -1,7 +1,7 @@
 //! The bars of the rows: what became of each task.
 ghost use Rattle.std.specs.Prelude.{◌≡◌, ◌++◌, OnOk, codes, position};
 ghost use Rattle.std.specs.List.{flat_map};
-ghost use Rattle.trace_picture.specs.Rows.{is_task, row_bar, row_text, word_of};
+ghost use Rattle.trace_picture.specs.Rows.{is_task, rect_text, row_bar, row_text, title_text, word_of};
 ghost use Rattle.trace_picture.specs.Scene.{scene_of};
 
 use crate::around::put;
@@ -27,6 +27,7 @@ pub(crate) fn write_rows(
 }
 
 /// Appends a bar of a row, where its task is listed.
+#[tactic(auto, unfolding(crate::specs::Rows::row_bar))]
 fn write_row_bar(
     text: &mut Vec<u8>,
     scene: &Scene,
@@ -50,21 +51,45 @@ fn row_of(listed: &[usize], thread: usize) -> Option<usize>
 }
 
 /// Appends a bar of a row.
+#[tactic(auto, unfolding(crate::specs::Rows::row_text))]
 fn write_bar(text: &mut Vec<u8>, scene: &Scene, row: usize, bar: Bar) -> Result<(), OutOfMemory>
     ensures { OnOk result (text.new.items ≡ text.old.items
         ++ row_text (scene_of scene.now) row bar) }
+{
+    write_rect(text, scene, row, bar)?;
+    write_title(text, scene, bar)?;
+    write_extent(text, scene, bar)?;
+    Ok(())
+}
+
+/// Appends where a bar of a row is.
+#[tactic(auto, unfolding(crate::specs::Rows::rect_text))]
+fn write_rect(text: &mut Vec<u8>, scene: &Scene, row: usize, bar: Bar) -> Result<(), OutOfMemory>
+    ensures { OnOk result (text.new.items ≡ text.old.items
+        ++ rect_text (scene_of scene.now) row bar) }
 {
     let word = word_of(bar.mark);
     let colour = bar.thread % 24;
     let x = scene.along(bar.from);
     let y = 8 * row as u128 + 2;
     let wide = bar.to.saturating_sub(bar.from);
-    let name = scene.name(bar.thread);
     let line = format!(in scene.alloc;
-        "<rect class=\"c{colour} {word}\" x=\"{x}\" y=\"{y}\" width=\"{wide}\" height=\"4\"><title>{name} {word}"
+        "<rect class=\"c{colour} {word}\" x=\"{x}\" y=\"{y}\" width=\"{wide}\" height=\"4\">"
     )?;
     put(text, &line)?;
-    write_extent(text, scene, bar)
+    Ok(())
+}
+
+/// Appends of whom a bar says what.
+#[tactic(auto, unfolding(crate::specs::Rows::title_text))]
+fn write_title(text: &mut Vec<u8>, scene: &Scene, bar: Bar) -> Result<(), OutOfMemory>
+    ensures { OnOk result (text.new.items ≡ text.old.items ++ title_text (scene_of scene.now) bar) }
+{
+    let word = word_of(bar.mark);
+    let name = scene.name(bar.thread);
+    let line = format!(in scene.alloc; "<title>{name} {word}")?;
+    put(text, &line)?;
+    Ok(())
 }
 
 /// What a row says of a task.
