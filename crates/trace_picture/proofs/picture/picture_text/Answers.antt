@@ -13,25 +13,14 @@ returns c =
     let rows : listed ≡ listed_in scene bars = rw (c.len.ensures.value, c.deref.ensures.value) at c.in_ok-listed.ensures.listing in
     let is : c.put.new.text.items ≡ text_for scene listed c.step_of.result bars =
     parts_joined _ _ _ _ _ _ _ _ _ _ _ _ _ c.new-text.ensures.items
-    (rw (c.page_for.ensures, c.deref-2.ensures.value, c.deref-3.ensures.value, c.processors-processors.ensures.value) at
+    (rw (c.page_for-page.ensures, c.deref-2.ensures.value, c.deref-3.ensures.value, c.processors-processors.ensures.value) at
     c.in_ok-write_around.ensures)
-    (rw (c.page_for.ensures, c.deref-2.ensures.value, c.deref-4.ensures.value, c.processors-processors.ensures.value) at
-    c.in_ok-write_lanes.ensures)
-    (rw (
-      c.strong_top.ensures.value,
-      c.page_for.ensures,
-      c.deref-2.ensures.value,
-      c.deref-5.ensures.value,
-      c.processors-processors.ensures.value,
-    ) at c.in_ok-write_lanes-2.ensures)
-    (rw (
-      c.page_for.ensures,
-      c.deref-2.ensures.value,
-      c.deref-6.ensures.value,
-      c.deref-7.ensures.value,
-      c.processors-processors.ensures.value,
-    ) at c.in_ok-write_rows_group.ensures)
-    (rw (c.page_for.ensures, c.deref-2.ensures.value, c.processors-processors.ensures.value) at c.in_ok-write_legend.ensures)
+    (rw (c.page_for-page.ensures, c.deref-4.ensures.value, c.processors-processors.ensures.value) at c.in_ok-write_lanes.ensures)
+    (rw (c.strong_top.ensures.value, c.page_for-page.ensures, c.deref-5.ensures.value, c.processors-processors.ensures.value) at
+    c.in_ok-write_lanes-2.ensures)
+    (rw (c.page_for-page.ensures, c.deref-2.ensures.value, c.deref-6.ensures.value, c.deref-7.ensures.value,
+    c.processors-processors.ensures.value) at c.in_ok-write_rows_group.ensures)
+    (rw (c.page_for-page.ensures, c.deref-2.ensures.value, c.processors-processors.ensures.value) at c.in_ok-write_legend.ensures)
     c.in_ok-put.ensures in
     record {
       step = c.step_of.result;
