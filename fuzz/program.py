@@ -15,7 +15,7 @@ DEFAULT = os.path.normpath(os.path.join(os.path.dirname(os.path.abspath(__file__
 STATUS_LINES = {
     0: re.compile(rb''),
     1: re.compile(rb'invalid: line (\d+), defect ([1-5])\n'),
-    2: re.compile(rb'usage: run, check, make n p t e, large n p t e, weak, nested, jobs, watch k, import, draw \[A B\], steps \[A B\], chrome \[AT\], lost, weakjobs, importjobs, runjobs\n'),
+    2: re.compile(rb'usage: run, check, make n p t e, large n p t e, weak, nested, jobs, watch k, import, draw \[A B\], steps \[A B\], chrome \[AT\], lost, weakjobs, importjobs, runjobs, show \[A B\]\n'),
     3: re.compile(rb'input: line (\d+), kind (\d+)\n|input: more than (?:16777216|268435456) bytes\n'
                   rb'|input: version 1 wanted\n|input: tasks \d+ and \d+ have crossing masks\n'),
     4: re.compile(rb'read fault\n'),

@@ -9,7 +9,7 @@ export GIT_CEILING_DIRECTORIES="$room"
 passed=0
 failed=0
 skipped=0
-usage='usage: run, check, make n p t e, large n p t e, weak, nested, jobs, watch k, import, draw [A B], steps [A B], chrome [AT], lost, weakjobs, importjobs, runjobs'
+usage='usage: run, check, make n p t e, large n p t e, weak, nested, jobs, watch k, import, draw [A B], steps [A B], chrome [AT], lost, weakjobs, importjobs, runjobs, show [A B]'
 shift=$top/examples/first_shift.schedule
 
 # A test by its name: whether what came is what was expected.

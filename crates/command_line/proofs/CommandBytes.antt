@@ -15,7 +15,7 @@ use Rattle.schedule_picture.specs.declared.axis.Axis.TheVariants.{Time, Steps}
 use Rattle.schedule_picture.specs.declared.window.Window.{Window}
 use Rattle.command_line.specs.declared.words.Command.{Command}
 use Rattle.command_line.specs.declared.words.Command.TheVariants.{Run, Check, Weak, Nested, Jobs, WeakJobs, RunJobs, Watch, Import}
-use Rattle.command_line.specs.declared.words.Command.TheVariants.{ImportJobs, Draw, Chrome, Lost, Make, Large}
+use Rattle.command_line.specs.declared.words.Command.TheVariants.{ImportJobs, Draw, Chrome, Lost, Show, Make, Large}
 
 -- a command reads nothing or something
 reads_or_not : (command : Command) → ReadsNothing command ⊎ (ReadsNothing command → ⊥)
@@ -32,6 +32,7 @@ reads_or_not ImportJobs = inr (λ nothing. nothing)
 reads_or_not (Draw axis window) = inr (λ nothing. nothing)
 reads_or_not (Chrome start) = inr (λ nothing. nothing)
 reads_or_not Lost = inr (λ nothing. nothing)
+reads_or_not (Show window) = inr (λ nothing. nothing)
 reads_or_not (Make sizes) = inl tt
 reads_or_not (Large sizes) = inl tt
 
@@ -92,8 +93,9 @@ command_marked first words =
     if first == mark (codes "steps") then Draw Steps (window_said words) else (
     if first == mark (codes "chrome") then Chrome (start_said words) else (
     if first == mark (codes "lost") then Lost else (
+    if first == mark (codes "show") then Show (window_said words) else (
     if first == mark (codes "make") then Make (sizes_said words) else (
-    if first == mark (codes "large") then Large (sizes_said words) else Run))))))))))))))
+    if first == mark (codes "large") then Large (sizes_said words) else Run)))))))))))))))
 
 -- the command that words mean, if they mean one
 command_said : List (List ℕ) → Command
@@ -146,6 +148,10 @@ said_of words (Draw Steps window) (inr part) =
 said_of words (Chrome start) (inl alone) = ap command_said alone.each_word ∙ ap Chrome (sym alone.from_zero)
 said_of words (Chrome start) (inr given) = ap command_said given.each_word ∙ ap Chrome given.is_number.0.1
 said_of words Lost spoken = ap command_said spoken
+said_of words (Show window) (inl whole) =
+    ap command_said whole.each_word ∙ ap Show (whole_is_said words window (codes "show") whole)
+said_of words (Show window) (inr part) =
+    ap command_said part.each_word ∙ ap Show (window_is_said part.from part.to window part.is_window (codes "show"))
 said_of words (Make sizes) spoken = ap command_said spoken.each_word
     ∙ ap Make (sizes_are_said spoken.number spoken.processors spoken.tasks spoken.events sizes spoken.sized (codes "make"))
 said_of words (Large sizes) spoken = ap command_said spoken.each_word
@@ -201,6 +207,7 @@ command_within words (Draw axis window) spoken = tt
 command_within words (Chrome start) (inl alone) = let zero = alone.from_zero in omega arith
 command_within words (Chrome start) (inr given) = given.is_number.2
 command_within words Lost spoken = tt
+command_within words (Show window) spoken = tt
 command_within words (Make sizes) spoken = sized_within _ words sizes spoken
 command_within words (Large sizes) spoken = sized_within _ words sizes spoken
 
@@ -236,15 +243,19 @@ unsized_words words first number processors tasks events five none (Draw axis wi
 unsized_words words first number processors tasks events five none (Chrome start) (inl alone) = let same = sym five ∙ alone.each_word in cc
 unsized_words words first number processors tasks events five none (Chrome start) (inr given) = let same = sym five ∙ given.each_word in cc
 unsized_words words first number processors tasks events five none Lost spoken = let same = sym five ∙ spoken in cc
+unsized_words words first number processors tasks events five none (Show window) (inl whole) =
+    let same = sym five ∙ whole.each_word in cc
+unsized_words words first number processors tasks events five none (Show window) (inr part) =
+    let same = sym five ∙ part.each_word in cc
 unsized_words words first number processors tasks events five none (Make sizes) spoken =
     no_sizes _ words number processors tasks events first five none sizes spoken
 unsized_words words first number processors tasks events five none (Large sizes) spoken =
     no_sizes _ words number processors tasks events first five none sizes spoken
 
 -- three words of which the last two say no window mean no command
-no_window : (words : List (List ℕ)) (axis : Axis) (first from to : List ℕ) → words ≡ first ∷ from ∷ to ∷ []
-    → ((window : Window) → IsWindow from to window → ⊥) → (window : Window) → IsOfPart (word_of axis) words window → ⊥
-no_window words axis first from to three none window part =
+no_window : (words : List (List ℕ)) (name first from to : List ℕ) → words ≡ first ∷ from ∷ to ∷ []
+    → ((window : Window) → IsWindow from to window → ⊥) → (window : Window) → IsOfPart name words window → ⊥
+no_window words name first from to three none window part =
     let same = sym part.each_word ∙ three in
     let begins : part.from ≡ from = cc in
     let ends : part.to ≡ to = cc in
@@ -263,10 +274,13 @@ unwindowed_words words first from to three none (Watch observers) spoken = let s
 unwindowed_words words first from to three none Import spoken = let same = sym three ∙ spoken in cc
 unwindowed_words words first from to three none ImportJobs spoken = let same = sym three ∙ spoken in cc
 unwindowed_words words first from to three none (Draw axis window) (inl whole) = let same = sym three ∙ whole.each_word in cc
-unwindowed_words words first from to three none (Draw axis window) (inr part) = no_window words axis first from to three none window part
+unwindowed_words words first from to three none (Draw axis window) (inr part) =
+    no_window words (word_of axis) first from to three none window part
 unwindowed_words words first from to three none (Chrome start) (inl alone) = let same = sym three ∙ alone.each_word in cc
 unwindowed_words words first from to three none (Chrome start) (inr given) = let same = sym three ∙ given.each_word in cc
 unwindowed_words words first from to three none Lost spoken = let same = sym three ∙ spoken in cc
+unwindowed_words words first from to three none (Show window) (inl whole) = let same = sym three ∙ whole.each_word in cc
+unwindowed_words words first from to three none (Show window) (inr part) = no_window words (codes "show") first from to three none window part
 unwindowed_words words first from to three none (Make sizes) spoken = let same = sym three ∙ spoken.each_word in cc
 unwindowed_words words first from to three none (Large sizes) spoken = let same = sym three ∙ spoken.each_word in cc
 

@@ -17,6 +17,7 @@ use Rattle.commands.specs.Import.{IsImportOf, AcceptsTrace, RefusesTrace}
 use Rattle.commands.specs.ImportJobs.{IsImportedJobsOf, AcceptsJobTrace, RefusesJobTrace}
 use Rattle.commands.specs.Draw.{IsDrawingOf}
 use Rattle.commands.specs.Lost.{IsLossOf, AcceptsTaskTrace, RefusesTaskTrace}
+use Rattle.commands.specs.Show.{IsShowOf}
 use Rattle.commands.specs.Generating.{IsMakeOf}
 use Rattle.commands.specs.Sizes.{AreWithin}
 use Rattle.commands.specs.declared.sizes.Sizes.{Sizes}
@@ -30,7 +31,7 @@ use Rattle.command_line.specs.declared.words.Command.{Command}
 use Rattle.command_line.specs.declared.words.Command.TheVariants.{Run, Check, Weak, Nested, Jobs}
 use Rattle.command_line.specs.declared.words.Command.TheVariants.{WeakJobs, RunJobs, Watch, Import}
 use Rattle.command_line.specs.declared.words.Command.TheVariants.{ImportJobs, Draw, Chrome, Lost}
-use Rattle.command_line.specs.declared.words.Command.TheVariants.{Make, Large}
+use Rattle.command_line.specs.declared.words.Command.TheVariants.{Show, Make, Large}
 
 -- ---- words
 -- a number, and then how many processors, tasks and events there are; leading zeros are no fault
@@ -106,6 +107,8 @@ IsCommand words (Draw axis window) =
     IsOfWhole (word_of axis) words window ⊎ IsOfPart (word_of axis) words window
 IsCommand words (Chrome start) = IsChromeAlone words start ⊎ IsChromeAt words start
 IsCommand words Lost = words ≡ codes "lost" ∷ []
+IsCommand words (Show window) =
+    IsOfWhole (codes "show") words window ⊎ IsOfPart (codes "show") words window
 IsCommand words (Make sizes) = IsSized (codes "make") words sizes
 IsCommand words (Large sizes) = IsSized (codes "large") words sizes
 
@@ -124,11 +127,13 @@ IsBounded ImportJobs = Unit {0}
 IsBounded (Draw axis window) = Unit {0}
 IsBounded (Chrome start) = start ≤ 9007199254740991
 IsBounded Lost = Unit {0}
+IsBounded (Show window) = Unit {0}
 IsBounded (Make sizes) = AreWithin sizes
 IsBounded (Large sizes) = AreWithin sizes
 
 -- ---- what is read
--- the most bytes that a command reads: `import`, `importjobs` and `lost` read long traces
+-- the most bytes that a command reads: `import`, `importjobs`, `lost` and `show` read
+-- long traces
 abbrev pub byte_limit : Command → ℕ
 byte_limit Run = text_limit
 byte_limit Check = text_limit
@@ -143,6 +148,7 @@ byte_limit ImportJobs = trace_limit
 byte_limit (Draw axis window) = text_limit
 byte_limit (Chrome start) = text_limit
 byte_limit Lost = trace_limit
+byte_limit (Show window) = trace_limit
 byte_limit (Make sizes) = text_limit
 byte_limit (Large sizes) = text_limit
 
@@ -161,6 +167,7 @@ ReadsNothing ImportJobs = ⊥
 ReadsNothing (Draw axis window) = ⊥
 ReadsNothing (Chrome start) = ⊥
 ReadsNothing Lost = ⊥
+ReadsNothing (Show window) = ⊥
 ReadsNothing (Make sizes) = Unit {0}
 ReadsNothing (Large sizes) = Unit {0}
 
@@ -190,6 +197,7 @@ Makes ImportJobs read put = IsImportedJobsOf read put
 Makes (Draw axis window) read put = IsDrawingOf axis window read put
 Makes (Chrome start) read put = IsChromeOf start read put
 Makes Lost read put = IsLossOf read put
+Makes (Show window) read put = IsShowOf window read put
 Makes (Make sizes) read put = IsMakeOf sizes put
 Makes (Large sizes) read put = IsLargeOf sizes put
 
@@ -208,6 +216,7 @@ Accepts ImportJobs bytes = AcceptsJobTrace bytes
 Accepts (Draw axis window) bytes = IsValidText bytes
 Accepts (Chrome start) bytes = IsValidText bytes
 Accepts Lost bytes = AcceptsTaskTrace bytes
+Accepts (Show window) bytes = AcceptsTaskTrace bytes
 Accepts (Make sizes) bytes = bytes ≡ []
 Accepts (Large sizes) bytes = bytes ≡ []
 
@@ -226,6 +235,7 @@ Refuses ImportJobs bytes status = RefusesJobTrace bytes status
 Refuses (Draw axis window) bytes status = RefusesCheck bytes status
 Refuses (Chrome start) bytes status = RefusesCheck bytes status
 Refuses Lost bytes status = RefusesTaskTrace bytes status
+Refuses (Show window) bytes status = RefusesTaskTrace bytes status
 Refuses (Make sizes) bytes status = ⊥
 Refuses (Large sizes) bytes status = ⊥
 

@@ -18,7 +18,7 @@ use crate::words::{Command, command_of};
 use commands::{
     MAX_BYTES, MAX_TRACE_BYTES, Status, checked_text, chrome_trace, drawn_text, imported_jobs_text,
     imported_text, jobs_schedule_text, jobs_text, lost_text, made_text, nested_text,
-    weak_jobs_text, weak_text,
+    show_text, weak_jobs_text, weak_text,
 };
 use processor_seat::Gate;
 use shift_io::{ReadAllFault, Sink, Source, put_all, read_all};
@@ -37,7 +37,7 @@ use std::thread::Threads;
 /// observers read which processors are occupied, each on a thread of its own. It writes the schedule text, and then what
 /// they read; the gate is also called before each of their reads. `import` reads a trace of the Linux scheduler, and
 /// writes the input that it comes to, `importjobs` the text of the jobs that its tasks had, and `lost` what each of its
-/// tasks lost beside the best set. `draw`, `steps` and `chrome` read what `check` reads, and of a valid schedule write a picture, or a trace in
+/// tasks lost beside the best set, and `show` a picture of what they did beside what strong scheduling would have had. `draw`, `steps` and `chrome` read what `check` reads, and of a valid schedule write a picture, or a trace in
 /// Chrome's format. `make` writes the text of the input of its four numbers, and `large` replays that input as `run` does
 /// and writes a summary; neither reads the source.
 #[tactic(auto, unfolding(crate::specs::Command::Refuses))]
@@ -160,7 +160,7 @@ fn limit_of(command: Command) -> usize
     ensures { result ≡ byte_limit command }
 {
     match command {
-        Command::Import | Command::ImportJobs | Command::Lost => MAX_TRACE_BYTES,
+        Command::Import | Command::ImportJobs | Command::Lost | Command::Show(_) => MAX_TRACE_BYTES,
         Command::Run
         | Command::Check
         | Command::Weak
@@ -203,6 +203,7 @@ fn text_made<R: Threads + Wait + Sync, G: Gate + Sync>(
         Command::Draw(axis, window) => drawn_text(alloc, bytes, axis, window),
         Command::Chrome(start) => chrome_trace(alloc, bytes, start),
         Command::Lost => lost_text(alloc, bytes),
+        Command::Show(window) => show_text(alloc, bytes, window),
         Command::Make(sizes) => {
             let text = made_text(alloc, sizes)?;
             Ok(text)

@@ -47,6 +47,8 @@ pub enum Command {
     Chrome(u64),
     /// The source is a trace of the Linux scheduler, and what each of its tasks lost is written.
     Lost,
+    /// The source is a trace of the Linux scheduler, and a picture of this window of it is written.
+    Show(Window),
     /// The text of the input of these numbers is written. Nothing is read.
     Make(Sizes),
     /// The events of the input of these numbers are replayed, and a summary of the schedule is written. Nothing is
@@ -54,7 +56,7 @@ pub enum Command {
     Large(Sizes),
 }
 
-/// The whole of a schedule: no schedule ends later.
+/// The whole of a schedule or a trace: none ends later.
 const WHOLE: Window = Window {
     from: 0,
     to: u64::MAX,
@@ -80,6 +82,7 @@ pub fn command_of(words: &[String]) -> Option<Command>
             "steps" => Some(Command::Draw(Axis::Steps, WHOLE)),
             "chrome" => Some(Command::Chrome(0)),
             "lost" => Some(Command::Lost),
+            "show" => Some(Command::Show(WHOLE)),
             _ => None,
         },
         [word, number] => numbered(word, number),
@@ -90,6 +93,7 @@ pub fn command_of(words: &[String]) -> Option<Command>
             match word.as_str() {
                 "draw" => Some(Command::Draw(Axis::Time, window)),
                 "steps" => Some(Command::Draw(Axis::Steps, window)),
+                "show" => Some(Command::Show(window)),
                 _ => None,
             }
         }

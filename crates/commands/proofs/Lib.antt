@@ -14,6 +14,7 @@ pub mod LostThreads
 pub mod MadeTexts
 pub mod NestedAnswers
 pub mod OneVerdict
+pub mod PassageSpans
 pub mod ReadBytes
 pub mod Refusals
 pub mod RunSchedules

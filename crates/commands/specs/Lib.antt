@@ -15,6 +15,7 @@ pub mod NestedRun
 pub mod Reading
 pub mod Refusal
 pub mod ScheduleLaws
+pub mod Show
 pub mod Sizes
 pub mod Status
 pub mod Summary

@@ -30,7 +30,7 @@ status_text Done = []
 status_text (Invalid line defect) =
     codes "invalid: line " ++ canonical_number line ++ codes ", defect " ++ canonical_number defect
 status_text Usage = codes
-    "usage: run, check, make n p t e, large n p t e, weak, nested, jobs, watch k, import, draw [A B], steps [A B], chrome [AT], lost, weakjobs, importjobs, runjobs"
+    "usage: run, check, make n p t e, large n p t e, weak, nested, jobs, watch k, import, draw [A B], steps [A B], chrome [AT], lost, weakjobs, importjobs, runjobs, show [A B]"
 status_text (Input line kind) =
     codes "input: line " ++ canonical_number line ++ codes ", kind " ++ canonical_number kind
 status_text Version = codes "input: version 1 wanted"

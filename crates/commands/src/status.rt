@@ -49,7 +49,7 @@ impl fmt::Display for Status {
             Status::Invalid { line, defect } => write!(f, "invalid: line {line}, defect {defect}"),
             Status::Usage => write!(
                 f,
-                "usage: run, check, make n p t e, large n p t e, weak, nested, jobs, watch k, import, draw [A B], steps [A B], chrome [AT], lost, weakjobs, importjobs, runjobs"
+                "usage: run, check, make n p t e, large n p t e, weak, nested, jobs, watch k, import, draw [A B], steps [A B], chrome [AT], lost, weakjobs, importjobs, runjobs, show [A B]"
             ),
             Status::Input { line, kind } => write!(f, "input: line {line}, kind {kind}"),
             Status::Version => write!(f, "input: version 1 wanted"),

@@ -11,7 +11,7 @@ use Rattle.commands.specs.NestedRun.{RefusesNested}
 use Rattle.commands.specs.Status.{BeforePut}
 use Rattle.command_line.specs.declared.words.Command.{Command}
 use Rattle.command_line.specs.declared.words.Command.TheVariants.{Run, Check, Weak, Nested, Jobs, WeakJobs, RunJobs, Watch, Import}
-use Rattle.command_line.specs.declared.words.Command.TheVariants.{ImportJobs, Draw, Chrome, Lost, Make, Large}
+use Rattle.command_line.specs.declared.words.Command.TheVariants.{ImportJobs, Draw, Chrome, Lost, Show, Make, Large}
 use Rattle.command_line.specs.Command.{IsCommand, Reads, Refuses, ReadsRefused}
 use Rattle.command_line.proofs.CommandBytes.{one_command, read_is_expected, never_too_long, too_long_said, within_said, takes_said}
 use Rattle.command_line.proofs.CommandBytes.{left_out}
@@ -103,6 +103,7 @@ is_refusal ImportJobs read told refused = input_refusal _ told refused
 is_refusal (Draw axis window) read told refused = check_refusal read told refused
 is_refusal (Chrome start) read told refused = check_refusal read told refused
 is_refusal Lost read told refused = input_refusal _ told refused
+is_refusal (Show window) read told refused = input_refusal _ told refused
 is_refusal (Make sizes) read told refused = absurd refused
 is_refusal (Large sizes) read told refused = absurd refused
 

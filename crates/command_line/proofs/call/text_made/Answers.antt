@@ -52,3 +52,7 @@ returns-in-Chrome g c = rw c.in-Chrome.is c.chrome_trace.ensures
 pub returns-in-Lost : goal.returns-in-Lost
 unfolding Makes Accepts Refuses
 returns-in-Lost g c = rw c.in-Lost.is c.lost_text.ensures
+
+pub returns-in-Show : goal.returns-in-Show
+unfolding Makes Accepts Refuses
+returns-in-Show g c = rw c.in-Show.is c.show_text.ensures

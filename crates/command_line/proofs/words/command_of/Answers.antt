@@ -106,6 +106,14 @@ returns-in-steps c = inl (record {
   to_end = refl;
 })
 
+pub returns-in-show : goal.returns-in-show
+returns-in-show c = inl (record {
+  each_word = said_alone c.args.words.now _ _ _ c.in-len1.len_at_least c.in-len1.len_below c.word-item.is
+      c.as_str.ensures.value c.in-show.is;
+  from_start = refl;
+  to_end = refl;
+})
+
 pub returns-in-len2 : goal.returns-in-len2
 returns-in-len2 c =
     let words : map (string_bytes {Z = Global}) c.args.words.now ≡ string_bytes c.word-item-then-words-lt3.result
