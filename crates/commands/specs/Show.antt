@@ -1,7 +1,7 @@
 -- A picture of what the tasks of a trace did, from the bytes of the trace, beside what strong
 -- scheduling would have had for the same readiness. A moment is a microsecond since the first
 -- change.
-use Rattle.std.specs.Prelude.{ℕ, min, max, List, length}
+use Rattle.std.specs.Prelude.{ℕ, ◌+◌, min, max, List, length}
 use Rattle.kernel_trace.specs.Passage.{TaskTraceData, IsTaskTraceText}
 use Rattle.kernel_trace.specs.Passages.{IsTaskTrace}
 use Rattle.schedule_picture.specs.declared.window.Window.{Window}
@@ -27,11 +27,11 @@ scene_in trace part = record { set = trace.set; clock = trace.clock; part = part
 -- the bytes are the picture of the bars of the part that the window shows: of the lanes of the trace
 -- who runs on which processor, as the passages say; of those of strong scheduling whom it links to
 -- which one; and of the rows at which moments each task ran, was lost, and waited rightly. The
--- threads that are told apart are the tasks
+-- threads that are told apart have bars in the lanes of the trace too
 pub record IsShown (window : Window) (trace : TaskTraceData) (put : List ℕ) : Type 0 where
   pub bars : Bars
   pub valid : IsTaskSet trace.set
-  pub are : AreBarsOf (trace_of trace.set (length trace.set.tasks) trace.passages)
+  pub are : AreBarsOf (trace_of trace.set (length trace.set.tasks + length trace.unlisted) trace.passages)
       (part_of window (span_of trace.passages)) bars
   pub picture : IsPicture (scene_in trace (part_of window (span_of trace.passages))) bars put
 

@@ -1,5 +1,5 @@
 //! From the bytes of a trace of the Linux scheduler to a picture of what its tasks did, beside what strong scheduling would have had.
-ghost use Rattle.std.specs.Prelude.{◌≡◌, length, IfOk};
+ghost use Rattle.std.specs.Prelude.{◌≡◌, ◌+◌, length, IfOk};
 ghost use Rattle.trace_passages.specs.Passages.{ArePassages};
 ghost use Rattle.commands.specs.Answers.{Answers};
 ghost use Rattle.commands.specs.Lost.{AcceptsTaskTrace, RefusesTaskTrace};
@@ -29,11 +29,13 @@ pub fn show_text(alloc: Global, bytes: &[u8], window: Window) -> Result<Vec<u8>,
 
 /// The picture of a window of a trace.
 fn shown(alloc: Global, trace: &TaskTrace, window: Window) -> Result<Vec<u8>, OutOfMemory>
-    requires { ArePassages (length trace.now.set.tasks) (length trace.now.set.tasks) trace.now.passages }
+    requires { ArePassages (length trace.now.set.tasks)
+        (length trace.now.set.tasks + length trace.now.unlisted) trace.now.passages }
     ensures { IfOk result (λ text. IsShown window trace.now text.items) }
 {
     let part = part_of(window, trace.span());
-    let bars = bars_of(alloc, trace.set(), trace.set().len(), trace.passages(), part)?;
+    let threads = trace.set().len() + trace.unlisted();
+    let bars = bars_of(alloc, trace.set(), threads, trace.passages(), part)?;
     let scene = Scene {
         alloc,
         set: trace.set(),

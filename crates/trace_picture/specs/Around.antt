@@ -4,9 +4,8 @@ use Rattle.std.specs.Prelude.{codes, Option, if◌then◌else◌}
 use Rattle.std.specs.List.{flat_map, range_with_len}
 use Rattle.affinity_mask.specs.Number.{canonical_number}
 use Rattle.kernel_trace.specs.StampText.{stamp_text, clock_after}
-use Rattle.text_fields.specs.EventText.{name_of}
 use Rattle.trace_picture.specs.Page.{bottom, rows_top, strong_top}
-use Rattle.trace_picture.specs.Scene.{SceneData, across}
+use Rattle.trace_picture.specs.Scene.{SceneData, across, name_at}
 use Rattle.trace_picture.specs.declared.page.Page.{Page}
 
 -- the colours of tasks by their numbers modulo 24, of lost spans, and of waits
@@ -18,7 +17,7 @@ style_text =
     ++ codes ".c12{fill:#7fc8d9}.c13{fill:#e8d174}.c14{fill:#8fd19e}.c15{fill:#94a8d8}"
     ++ codes ".c16{fill:#b59ad0}.c17{fill:#e3e36b}.c18{fill:#66c2a5}.c19{fill:#e5a0c8}"
     ++ codes ".c20{fill:#bfa27c}.c21{fill:#77a8e6}.c22{fill:#a3cf62}.c23{fill:#ffab73}"
-    ++ codes ".lost{fill:#d9534f}.waited{fill:#ddd}"
+    ++ codes ".c24{fill:#bbb}.lost{fill:#d9534f}.waited{fill:#ddd}"
 
 -- ---- the beginning of the page
 unfoldable pub opening_text : Page → List ℕ
@@ -123,7 +122,7 @@ task_text scene top k task =
     codes "<rect class=\"c" ++ canonical_number (task % 24)
     ++ codes "\" x=\"4\" y=\"" ++ canonical_number (top + 16 * k + 3)
     ++ codes "\" width=\"10\" height=\"10\"/><text x=\"20\" y=\"" ++ canonical_number (top + 16 * k + 12)
-    ++ codes "\">" ++ name_of scene.set task
+    ++ codes "\">" ++ name_at scene task
     ++ codes "</text><path d=\"M200," ++ canonical_number (top + 16 * k + 16)
     ++ codes " h1000\" stroke=\"#eee\"/>\n"
 

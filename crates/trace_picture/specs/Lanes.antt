@@ -1,16 +1,15 @@
 -- The lanes of processors. A bar is a rectangle in the moments of the part, eight high for each lane,
 -- with a title: the task, the processor, the moments, and the clock of the first one.
-use Rattle.std.specs.Prelude.{ℕ, ◌+◌, ◌-◌, ◌*◌, ◌/◌, ◌%◌, Bool, false, nat_le, nat_lt, List, [], ◌++◌}
+use Rattle.std.specs.Prelude.{ℕ, ◌+◌, ◌-◌, ◌*◌, ◌/◌, Bool, false, nat_le, nat_lt, List, [], ◌++◌}
 use Rattle.std.specs.Prelude.{length, codes, Option, Some, None, if◌then◌else◌}
 use Rattle.std.specs.List.{flat_map}
 use Rattle.affinity_mask.specs.Number.{canonical_number}
 use Rattle.kernel_trace.specs.StampText.{stamp_text, clock_after}
-use Rattle.text_fields.specs.EventText.{name_of}
 use Rattle.trace_bars.specs.declared.mark.Bar.{Bar}
 use Rattle.trace_bars.specs.declared.mark.Mark.{Mark}
 use Rattle.trace_bars.specs.declared.mark.Mark.TheVariants.{Runs, Linked, Ran, Lost, Waits}
 use Rattle.trace_picture.specs.Around.{group_head}
-use Rattle.trace_picture.specs.Scene.{SceneData, across, lane_of, span_of}
+use Rattle.trace_picture.specs.Scene.{SceneData, across, colour_at, lane_of, name_at, span_of}
 
 -- the processor that a bar of a lane is on
 abbrev pub processor_of : Mark → Option ℕ
@@ -39,11 +38,11 @@ extent_text scene bar =
 -- the bar of a processor
 unfoldable pub bar_text : SceneData → ℕ → Bar → List ℕ
 bar_text scene p bar =
-    codes "<rect class=\"c" ++ canonical_number (bar.thread % 24)
+    codes "<rect class=\"c" ++ canonical_number (colour_at scene bar.thread)
     ++ codes "\" x=\"" ++ canonical_number (bar.from - scene.part.from)
     ++ codes "\" y=\"" ++ canonical_number (8 * lane_of scene p + 1)
     ++ codes "\" width=\"" ++ canonical_number (bar.to - bar.from)
-    ++ codes "\" height=\"6\"><title>" ++ name_of scene.set bar.thread
+    ++ codes "\" height=\"6\"><title>" ++ name_at scene bar.thread
     ++ codes " on cpu " ++ canonical_number p ++ extent_text scene bar
 
 abbrev pub bar_text_at : SceneData → Option ℕ → Bar → List ℕ
@@ -57,14 +56,14 @@ lane_bar scene bar = bar_text_at scene (processor_of bar.mark) bar
 -- the name of a bar does not fit on the page, with seven for each byte and six more
 abbrev pub is_narrow : SceneData → Bar → Bool
 is_narrow scene bar = nat_lt (across scene.part bar.to)
-    (across scene.part bar.from + 7 * length (name_of scene.set bar.thread) + 6)
+    (across scene.part bar.from + 7 * length (name_at scene bar.thread) + 6)
 
 -- the name of a bar in its middle
 unfoldable pub middle_text : SceneData → ℕ → ℕ → Bar → List ℕ
 middle_text scene top p bar =
     codes "<text x=\"" ++ canonical_number ((across scene.part bar.from + across scene.part bar.to) / 2)
     ++ codes "\" y=\"" ++ canonical_number (top + 24 * lane_of scene p + 16)
-    ++ codes "\" text-anchor=\"middle\" pointer-events=\"none\">" ++ name_of scene.set bar.thread
+    ++ codes "\" text-anchor=\"middle\" pointer-events=\"none\">" ++ name_at scene bar.thread
     ++ codes "</text>\n"
 
 -- the same, where it fits

@@ -2,12 +2,11 @@
 use Rattle.std.specs.Prelude.{ℕ, ◌+◌, ◌-◌, ◌*◌, ◌%◌, ◌==◌, Bool, List, [], ◌++◌, codes, position, Option}
 use Rattle.std.specs.Prelude.{Some, None}
 use Rattle.affinity_mask.specs.Number.{canonical_number}
-use Rattle.text_fields.specs.EventText.{name_of}
 use Rattle.trace_bars.specs.declared.mark.Bar.{Bar}
 use Rattle.trace_bars.specs.declared.mark.Mark.{Mark}
 use Rattle.trace_bars.specs.declared.mark.Mark.TheVariants.{Runs, Linked, Ran, Lost, Waits}
 use Rattle.trace_picture.specs.Lanes.{extent_text}
-use Rattle.trace_picture.specs.Scene.{SceneData}
+use Rattle.trace_picture.specs.Scene.{SceneData, name_at}
 
 -- what a row says of a task: a thread on a processor runs
 abbrev pub word_of : Mark → List ℕ
@@ -28,7 +27,7 @@ rect_text scene row bar =
 -- of whom it says what
 unfoldable pub title_text : SceneData → Bar → List ℕ
 title_text scene bar =
-    codes "<title>" ++ name_of scene.set bar.thread ++ codes " " ++ word_of bar.mark
+    codes "<title>" ++ name_at scene bar.thread ++ codes " " ++ word_of bar.mark
 
 -- a bar in this row
 unfoldable pub row_text : SceneData → ℕ → Bar → List ℕ

@@ -64,7 +64,7 @@ fn write_opening(text: &mut Vec<u8>, scene: &Scene, page: Page) -> Result<(), Ou
 fn style() -> &'static str
     ensures { result.now ≡ style_text }
 {
-    ".c0{fill:#a6cee3}.c1{fill:#fdbf6f}.c2{fill:#b2df8a}.c3{fill:#a5ebe3}.c4{fill:#cab2d6}.c5{fill:#ffff99}.c6{fill:#8dd3c7}.c7{fill:#f4cae4}.c8{fill:#d9c3a5}.c9{fill:#9ec9ff}.c10{fill:#c7e89c}.c11{fill:#ffc9a3}.c12{fill:#7fc8d9}.c13{fill:#e8d174}.c14{fill:#8fd19e}.c15{fill:#94a8d8}.c16{fill:#b59ad0}.c17{fill:#e3e36b}.c18{fill:#66c2a5}.c19{fill:#e5a0c8}.c20{fill:#bfa27c}.c21{fill:#77a8e6}.c22{fill:#a3cf62}.c23{fill:#ffab73}.lost{fill:#d9534f}.waited{fill:#ddd}"
+    ".c0{fill:#a6cee3}.c1{fill:#fdbf6f}.c2{fill:#b2df8a}.c3{fill:#a5ebe3}.c4{fill:#cab2d6}.c5{fill:#ffff99}.c6{fill:#8dd3c7}.c7{fill:#f4cae4}.c8{fill:#d9c3a5}.c9{fill:#9ec9ff}.c10{fill:#c7e89c}.c11{fill:#ffc9a3}.c12{fill:#7fc8d9}.c13{fill:#e8d174}.c14{fill:#8fd19e}.c15{fill:#94a8d8}.c16{fill:#b59ad0}.c17{fill:#e3e36b}.c18{fill:#66c2a5}.c19{fill:#e5a0c8}.c20{fill:#bfa27c}.c21{fill:#77a8e6}.c22{fill:#a3cf62}.c23{fill:#ffab73}.c24{fill:#bbb}.lost{fill:#d9534f}.waited{fill:#ddd}"
 }
 
 /// Appends the title.

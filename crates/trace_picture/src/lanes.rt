@@ -86,7 +86,7 @@ fn write_lane_bar(text: &mut Vec<u8>, scene: &Scene, bar: Bar) -> Result<(), Out
 fn write_bar(text: &mut Vec<u8>, scene: &Scene, p: u32, bar: Bar) -> Result<(), OutOfMemory>
     ensures { OnOk result (text.new.items ≡ text.old.items ++ bar_text (scene_of scene.now) p bar) }
 {
-    let colour = bar.thread % 24;
+    let colour = scene.colour(bar.thread);
     let x = scene.along(bar.from);
     let y = 8 * u64::from(scene.lane(p)) + 1;
     let wide = bar.to.saturating_sub(bar.from);

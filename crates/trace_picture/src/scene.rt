@@ -1,7 +1,6 @@
 //! What is drawn: the tasks, the clock, and the part of the trace.
 ghost use Rattle.std.specs.Prelude.{◌≡◌, ◌≤◌, ◌-◌};
-ghost use Rattle.text_fields.specs.EventText.{name_of};
-ghost use Rattle.trace_picture.specs.Scene.{across, lane_of, scene_of, span_of};
+ghost use Rattle.trace_picture.specs.Scene.{across, colour_at, lane_of, name_at, scene_of, span_of};
 
 use std::alloc::Global;
 use task_set::TaskSet;
@@ -46,14 +45,25 @@ impl Scene<'_> {
         p.min(u32::from(self.set.processors()))
     }
 
-    /// The name of a thread that is a task. Of another one it is empty.
+    /// The name of a thread that is a task. Others have one word.
     pub(crate) fn name(&self, thread: usize) -> &str
-        ensures { result.now ≡ name_of self.now.set.now thread }
+        ensures { result.now ≡ name_at (scene_of self.now) thread }
     {
         if thread < self.set.len() as usize {
             self.set.name(thread as u32)
         } else {
-            ""
+            "not listed"
+        }
+    }
+
+    /// The number of the colour of a thread that is a task. Others have one colour.
+    pub(crate) fn colour(&self, thread: usize) -> usize
+        ensures { result ≡ colour_at (scene_of self.now) thread }
+    {
+        if thread < self.set.len() as usize {
+            thread % 24
+        } else {
+            24
         }
     }
 }

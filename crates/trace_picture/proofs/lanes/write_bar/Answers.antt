@@ -15,4 +15,5 @@ returns c =
       c.lane.ensures,
       c.saturating_sub-wide.ensures,
       c.name-name.ensures,
+      c.colour-colour.ensures,
     ) (simp append_assoc)
