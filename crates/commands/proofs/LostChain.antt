@@ -10,7 +10,6 @@ use Rattle.kernel_trace.specs.declared.loss_text.StepRow.{StepRow}
 use Rattle.task_set.specs.TaskSet.{SetData, IsTaskSet}
 use Rattle.strong_apa.specs.State.{State, IsState, task_count, task_on}
 use Rattle.strong_apa.proofs.Linked.{linked_number}
-use Rattle.live_core.specs.Lost.{state_held}
 use Rattle.trace_losses.specs.Book.{of_task}
 use Rattle.trace_losses.specs.ChainAt.{IsChainAt, steps_of}
 use Rattle.trace_losses.specs.Losses.{AreLosses}
@@ -106,10 +105,9 @@ chain_below : (set : SetData) (passages : List Passage) (x t : ℕ) (chain : Lis
     → IsChainAt set passages x t chain → All (λ (step : StepRow). step.task < length set.tasks) (map step_row chain)
 chain_below set passages x t chain below is = elim is.along [
   | inl along ↦
-      (let table = state_held is.links is.on in
-      let count = count_of set (ready_after_passages (reverse (take is.n passages))) is.links is.placed in
+      (let count = count_of set (ready_after_passages (reverse (take is.n passages))) is.links is.placed in
       subst (λ steps. All (λ (step : StepRow). step.task < length set.tasks) (map step_row steps)) (sym along.3)
-      (steps_below table (length set.tasks) is.table.state count (Some t) below along.0))
+      (steps_below _ (length set.tasks) is.table.state count (Some t) below along.0))
   | inr none ↦
       subst (λ steps. All (λ (step : StepRow). step.task < length set.tasks) (map step_row steps)) (sym none.1)
       (All-nil (λ (step : StepRow). step.task < length set.tasks))
@@ -151,12 +149,14 @@ one_lost_chain set threads passages found count first other begin steps more val
     | inl also ↦
         (let same : also.task ≡ is.task = one_longest found (length found) also.task is.task also.is_task is.is_task in
         let row : IsChainRow set passages is.task (longest_at found is.task) other begin more =
-        subst (λ (t : ℕ). IsChainRow set passages t (longest_at found t) other begin more) same also.row in
-        (is.row.is_count ∙ sym row.is_count, is.row.is_first ∙ sym row.is_first,
-        is.row.are_steps
-        ∙ ap (map step_row)
-        (chains_are_unique set threads passages (longest_at found is.task).first is.task is.row.chain row.chain valid passing is.row.is_chain
-        row.is_chain) ∙ sym row.are_steps))
+        subst (λ (t : ℕ). IsChainRow set passages t (longest_at found t) other begin more) same also.row in (
+          is.row.is_count ∙ sym row.is_count,
+          is.row.is_first ∙ sym row.is_first,
+          is.row.are_steps
+              ∙ ap (map step_row)
+              (chains_are_unique set threads passages (longest_at found is.task).first is.task is.row.chain row.chain valid passing is.row.is_chain
+              row.is_chain) ∙ sym row.are_steps,
+        ))
     | inr none ↦ not_both found (length found) is.task is.is_task none.none
   ]
   | inr none ↦ elim two [
