@@ -18,7 +18,8 @@ OTHERS = [b'# a remark', b'', b'CPU:2 [LOST 12 EVENTS]', b'CPU:0 [3 EVENTS DROPP
           b' a-1 [001] 1.0: sched_process_exit: comm=a pid=101 prio=1', b'CPU 3 is empty', b'\xff\x00\x80', b'version = 6',
           b'[3 events lost]', b'# entries-in-buffer/entries-written: 7/9   #P:4']
 # Threads that are no task, of real-time class and of none; and priorities that a kernel prints, SCHED_DEADLINE's and that of a fair thread too.
-STRANGERS = [7, 9, 4711]
+# Some are named often and some seldom; the greatest id is none.
+STRANGERS = [7, 9, 4711] * 6 + [*range(20, 34), 4194304, 4194305]
 PRIORITIES = [b'1', b'1', b'39', b'-1', b'120', b'0']
 ODD_PRIORITIES = [b'', b'-', b'--1', b'+1', b'1-', b'x']
 # Heads of the recorder, whole and overwritten, and such as are none.

@@ -1,5 +1,6 @@
 -- The task with the longest stretch, and its chain: found one after another, among the tasks, and only one.
-use Rattle.std.proofs.Common.{◌≡◌, ℕ, suc, ◌+◌, ◌<◌, ◌≤◌, ◌⊎◌, Bool, true, List, [], ◌∷◌, length, map, take, drop, get_or, Option, None, Some}
+use Rattle.std.proofs.Common.{◌≡◌, ℕ, suc, ◌+◌, ◌<◌, ◌≤◌, ◌⊎◌, Bool, true, List, [], ◌∷◌, length, map, take, drop, get_or, Option, None}
+use Rattle.std.proofs.Common.{Some}
 use Rattle.std.proofs.Common.{refl, sym, ap, ◌∙◌, subst, inl, inr, arith}
 use Rattle.std.specs.Prelude.{All, IfSome, reverse, slice_get}
 use Rattle.std.proofs.lemmas.Bool.{cases_lt}
@@ -22,7 +23,8 @@ use Rattle.trace_losses.proofs.OneChains.{chains_are_unique}
 use Rattle.trace_losses.proofs.SeenMoments.{count_of}
 use Rattle.trace_passages.specs.Passages.{ArePassages, span_of}
 use Rattle.trace_passages.specs.declared.passage.Passage.{Passage}
-use Rattle.commands.specs.LostChain.{no_loss, longest_at, longest_count, NoneLost, IsLongestLost, IsFoundLost, BeginWithin, step_row, IsChainRow}
+use Rattle.commands.specs.LostChain.{no_loss, longest_at, longest_count, NoneLost, IsLongestLost, IsFoundLost, BeginWithin, step_row}
+use Rattle.commands.specs.LostChain.{IsChainRow}
 use Rattle.commands.specs.LostChain.{IsLongestChain, IsNoChain, IsLostChain}
 
 -- ---- found one after another
@@ -84,7 +86,8 @@ begin_within set threads passages units found beside are t some = elim (cases_lt
       let all = are.are.all in
       let span = are.span in
       omega (arith, in_all, one, two, all, span))
-  | inr past ↦ (let none = ap (λ (loss : Loss). loss.longest.count) (get_or_past found t no_loss past) in absurd (omega (arith, none, some)))
+  | inr past ↦ (let none = ap (λ (loss : Loss). loss.longest.count) (get_or_past found t no_loss past) in
+      absurd (omega (arith, none, some)))
 ]
 
 -- ---- among the tasks
@@ -94,7 +97,8 @@ steps_below : (table : State) (tasks : ℕ) → IsState table → task_count tab
 steps_below table tasks ok count guest below [] = All-nil (λ (step : StepRow). step.task < tasks)
 steps_below table tasks ok count None below (p ∷ rest) = All-nil (λ (step : StepRow). step.task < tasks)
 steps_below table tasks ok count (Some t) below (p ∷ rest) =
-    All-cons (λ (step : StepRow). step.task < tasks) (record { task = t; processor = p }) (map step_row (steps_of table (task_on table p) rest))
+    All-cons (λ (step : StepRow). step.task < tasks) (record { task = t; processor = p })
+    (map step_row (steps_of table (task_on table p) rest))
     below (steps_below table tasks ok count (task_on table p) (holder (task_on table p) refl) rest)
   where
     holder : (on : Option ℕ) → task_on table p ≡ on → IfSome on (λ u. u < tasks)
@@ -154,7 +158,8 @@ one_lost_chain set threads passages found count first other begin steps more val
           is.row.is_first ∙ sym row.is_first,
           is.row.are_steps
               ∙ ap (map step_row)
-              (chains_are_unique set threads passages (longest_at found is.task).first is.task is.row.chain row.chain valid passing is.row.is_chain
+              (chains_are_unique set threads passages (longest_at found is.task).first is.task is.row.chain row.chain valid passing
+              is.row.is_chain
               row.is_chain) ∙ sym row.are_steps,
         ))
     | inr none ↦ not_both found (length found) is.task is.is_task none.none

@@ -32,14 +32,16 @@ lost_text_is_unique read put other one two =
     subst (λ (t : TaskTraceData). IsLossText t other) (one_trace read two.trace trace two.is_text one.is_text) two.is_loss in
     let passages = trace.passages in
     let same =
-    losses_are_unique trace.set (length trace.set.tasks + length trace.unlisted) passages told.units also.units told.losses also.losses told.beside also.beside
+    losses_are_unique trace.set (length trace.set.tasks + length trace.unlisted) passages told.units also.units told.losses also.losses
+    told.beside also.beside
     told.valid
     one.is_trace.in_order told.are also.are in
     let jumps = jumps_are_unique passages told.jumps also.jumps told.are_jumps also.are_jumps in
     let is_chain : IsLostChain trace.set passages also.losses told.count told.first told.steps =
     subst (λ (losses : List Loss). IsLostChain trace.set passages losses told.count told.first told.steps) same.1 told.is_chain in
     let chain =
-    one_lost_chain trace.set (length trace.set.tasks + length trace.unlisted) passages also.losses told.count told.first also.count also.first
+    one_lost_chain trace.set (length trace.set.tasks + length trace.unlisted) passages also.losses told.count told.first also.count
+    also.first
     told.steps also.steps told.valid one.is_trace.in_order is_chain also.is_chain in
     let counts : List ℕ → List ThreadRow = λ beside. thread_rows trace.unlisted (drop (length trace.set.tasks) beside) in
     let threads : told.threads ≡ also.threads =

@@ -61,10 +61,12 @@ pub record IsLossText (trace : TaskTraceData) (put : List ℕ) : Type 0 where
   pub threads : List ThreadRow
   pub jumps : ℕ
   pub valid : IsTaskSet trace.set
-  pub are : AreLosses trace.set (length trace.set.tasks + length trace.unlisted) trace.passages units
+  pub are : AreLosses trace.set (length trace.set.tasks + length trace.unlisted)
+      trace.passages units
       losses beside
   pub is_chain : IsLostChain trace.set trace.passages losses count first steps
-  pub are_most : AreMost 10 (thread_rows trace.unlisted (drop (length trace.set.tasks) beside)) threads
+  pub are_most : AreMost 10 (thread_rows trace.unlisted (drop (length trace.set.tasks) beside))
+      threads
   pub are_jumps : AreJumps trace.passages jumps
   pub text : put ≡ loss_text trace.set trace.clock units (told_rows trace.mentioned 0 losses)
       count first steps (length trace.unlisted) threads jumps
@@ -74,8 +76,8 @@ pub record IsLossText (trace : TaskTraceData) (put : List ℕ) : Type 0 where
 -- and runs, and at which it is in the best placeable set of the ready tasks and runs nowhere; how
 -- many of the latter stand in stretches of more than 50; the longest stretch of them, the first of
 -- several; and who ran most in it without being in that set; of the longest of all these stretches
--- the chain that would have given its task a processor at its first moment; and of the threads that are told apart
--- the number of moments at which each runs while some task is lost
+-- the chain that would have given its task a processor at its first moment; and of the threads that
+-- are told apart the number of moments at which each runs while some task is lost
 pub record IsLossOf (read put : List ℕ) : Type 0 where
   pub trace : TaskTraceData
   pub is_text : IsTaskTraceText read trace

@@ -1,7 +1,7 @@
 -- Which threads that are no tasks ran while a task was lost: those told apart, with the moments at
 -- which each of them did, and of these the ten that ran most.
-use Rattle.std.specs.Prelude.{◌≡◌, ℕ, ◌<◌, ◌≤◌, ◌⊎◌, ◌==◌, zero, suc, List, [], ◌∷◌, length, map, All}
-use Rattle.std.specs.Prelude.{Contains, Option, None, Some, if◌then◌else◌}
+use Rattle.std.specs.Prelude.{◌≡◌, ℕ, ◌<◌, ◌≤◌, ◌⊎◌, ◌==◌, zero, suc, List, [], ◌∷◌, map, All}
+use Rattle.std.specs.Prelude.{Contains, if◌then◌else◌}
 use Rattle.kernel_trace.specs.declared.loss_text.ThreadRow.{ThreadRow}
 
 -- a row for each id, with the count that stands at its place

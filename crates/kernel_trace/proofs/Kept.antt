@@ -470,8 +470,11 @@ module _ (head c : CourseData) (f next : FollowingData) (ms : List Readiness) (u
       let said : SaidData = Happened time change in
       let P : List ℕ → Option WindowData → Type 0 =
       λ ids window.
-      Stepped head f.passages next (ms ++ mentions_said ids window said) (used ++ used_said ids (number_read ids) window ms said processor) in
-      let about : (some : TaskChange) → task_change c.ids (number_read c.ids) change processor ≡ Some some → IsAboutTasks (length c.set.tasks) some =
+      Stepped head f.passages next (ms ++ mentions_said ids window said)
+      (used ++ used_said ids (number_read ids) window ms said processor) in
+      let about : (some : TaskChange) → task_change c.ids (number_read c.ids) change processor ≡ Some some
+      → IsAboutTasks (length c.set.tasks) some =
       λ some is. subst (λ (n : ℕ). IsAboutTasks n some) valid.ids (told_about c.ids (number_read c.ids) change processor some is) in
       subst (λ (window : Option WindowData). P head.ids window) kept.window
-      (subst (λ (ids : List ℕ). P ids c.window) kept.ids (told_steps (task_change c.ids (number_read c.ids) change processor) time change about e))
+      (subst (λ (ids : List ℕ). P ids c.window) kept.ids
+      (told_steps (task_change c.ids (number_read c.ids) change processor) time change about e))

@@ -85,7 +85,8 @@ pub end_written : (unlisted : ℕ) (threads : List ThreadRow) (jumps : ℕ) (t0 
 unfolding end_text
 end_written unlisted threads jumps t0 t1 t2 t3 t4 t5 e1 e2 e3 e4 e5 =
     rw (e5, e4, e3, e2, e1)
-    (end_pieces t0 (codes "unlisted ") (canonical_number unlisted) (10 ∷ []) (thread_lines threads) (codes "jumps ") (canonical_number jumps)
+    (end_pieces t0 (codes "unlisted ") (canonical_number unlisted) (10 ∷ []) (thread_lines threads) (codes "jumps ")
+    (canonical_number jumps)
     (codes "end\n"))
 
 pub text_written : (set : SetData) (clock : Option ℕ) (span : ℕ) (rows : List (Option LossRow)) (count first : ℕ)

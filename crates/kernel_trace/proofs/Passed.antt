@@ -10,7 +10,8 @@ use Rattle.text_fields.specs.Machine.{Outcome, Leads, Fails, Answer, IsText, Ref
 use Rattle.kernel_trace.specs.Course.{CourseData, says_ready, is_mentioned, names_task}
 use Rattle.kernel_trace.specs.Import.{mentions_said, mentions_in, is_last_in, IsHead}
 use Rattle.task_set.specs.TaskSet.{SetData}
-use Rattle.kernel_trace.specs.Passage.{task_of, FollowingData, FollowingOutcome, TaskTraceData, clock_of, trace_of, IsFollowed, IsFollowedEnd}
+use Rattle.kernel_trace.specs.Passage.{task_of, FollowingData, FollowingOutcome, TaskTraceData, clock_of, trace_of, IsFollowed}
+use Rattle.kernel_trace.specs.Passage.{IsFollowedEnd}
 use Rattle.kernel_trace.specs.Passage.{IsLineAt, IsEndAt, IsOfHead}
 use Rattle.kernel_trace.specs.Passages.{UsedLine, used_said, used_lines, from_turn, passages_since, passages_in, all_changes, NeverFall}
 use Rattle.kernel_trace.specs.Passages.{unlisted_of, AllTurn, IsPassageOf, IsTaskTrace, PassagesAreFaithful}
@@ -62,7 +63,8 @@ module _ (look : SurveyData) (head : CourseData) (trace : TaskTraceData) where
       → f.progress ≡ Tracing c
       → Kept head c f ms used → IsFollowed look f line (Leads next)
       → Stepped head f.passages next (ms ++ mentions_said head.ids head.window (said_by look.waking (fields_of line)))
-      (used ++ used_said head.ids (number_read head.ids) head.window ms (said_by look.waking (fields_of line)) (processor_of look.waking (fields_of line)))
+      (used ++ used_said head.ids (number_read head.ids) head.window ms (said_by look.waking (fields_of line))
+      (processor_of look.waking (fields_of line)))
   line_steps c f next ms used line expects kept comes =
       said_steps head c f next ms used kept (said_by look.waking (fields_of line)) (processor_of look.waking (fields_of line)) expects
       (whole_leads (is_gap look c.window (fields_of line)) f next _
@@ -187,7 +189,8 @@ module _ (look : SurveyData) (head : CourseData) (trace : TaskTraceData) where
       (append_assoc used seen (used_lines look.waking head.ids (number_read head.ids) head.window (ms ++ told) (take n rest))) later)
 
   -- from a head on
-  head_kept : IsHead head → IsCourse head → Kept head head (record { progress = Tracing head; start = None; passages = []; unlisted = [] }) [] []
+  head_kept : IsHead head → IsCourse head → Kept head head (record { progress = Tracing head; start = None; passages = []; unlisted = [] })
+      [] []
   head_kept is valid = record {
     set = refl;
     ids = refl;

@@ -65,7 +65,8 @@ pub settled_within : (tasks : ℕ) (unlisted : List ℕ) (passages : List Passag
     → All (IsPassageOf tasks (tasks + length unlisted)) (map (settled_passage tasks unlisted) passages)
 settled_within tasks unlisted passages all =
     All-map (IsPassageOf tasks (tasks + length unlisted)) (settled_passage tasks unlisted) passages
-    (All-weaker (IsReadOf tasks) (λ (passage : Passage). IsPassageOf tasks (tasks + length unlisted) (settled_passage tasks unlisted passage))
+    (All-weaker (IsReadOf tasks) (λ (passage : Passage). IsPassageOf tasks (tasks + length unlisted)
+    (settled_passage tasks unlisted passage))
     (λ passage is. record {
       numbers = record { turn = turn_within tasks unlisted passage.turn is.woken; first = is.first; second = is.second };
       moment = is.moment;

@@ -146,7 +146,8 @@ module _ (ids : List ℕ) (number other : ℕ → Option ℕ) (g h : TaskChange 
   told_recast f before time change (Some told) = refl
 
   said_recast : (before : List Readiness) (said : SaidData) (processor : Option ℕ)
-      → map (recast g) (used_said ids number window before said processor) ≡ map (recast h) (used_said ids other window before said processor)
+      → map (recast g) (used_said ids number window before said processor)
+      ≡ map (recast h) (used_said ids other window before said processor)
   said_recast before Nothing processor = refl
   said_recast before LostEvents processor = refl
   said_recast before Malformed processor = refl

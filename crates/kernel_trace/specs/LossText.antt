@@ -2,12 +2,13 @@
 -- and for each task that the trace mentions at how many moments it was ready, ran, and was lost,
 -- and how many of the lost ones stand in a long stretch; the longest stretch of lost moments with
 -- its first one and the clock then, `-` where there is none; and the task that ran then. A task
--- that no line mentions has `-`. After the tasks stands the chain that was not taken for the longest
--- of all stretches: its first moment with the clock then, `-` where no task was lost, and a line for
--- each task that would have gone to another processor. Then stand how many other threads are told
--- apart, and those of them that ran most while a task was lost. Last stands how many switches are from another
--- thread than the one that the switch before it on the same processor went to. Lines end with a line feed, fields are
--- separated by one space, and numbers are canonical.
+-- that no line mentions has `-`. After the tasks stands the chain that was not taken for the
+-- longest of all stretches: its first moment with the clock then, `-` where no task was lost, and a
+-- line for each task that would have gone to another processor. Then stand how many other threads
+-- are told apart, and those of them that ran most while a task was lost. Last stands how many
+-- switches are from another thread than the one that the switch before it on the same processor
+-- went to. Lines end with a line feed, fields are separated by one space, and numbers are
+-- canonical.
 use Rattle.std.specs.Prelude.{ℕ, ◌+◌, ◌==◌, List, [], ◌∷◌, ◌++◌, codes, Option, Some, None}
 use Rattle.std.specs.Prelude.{if◌then◌else◌}
 use Rattle.affinity_mask.specs.Number.{canonical_number}
@@ -82,8 +83,8 @@ abbrev pub thread_lines : List ThreadRow → List ℕ
 thread_lines [] = []
 thread_lines (row ∷ rest) = thread_line row ++ thread_lines rest
 
--- what stands after the tasks and the chain: how many threads are told apart, those that are named, the count of
--- switches, and the end
+-- what stands after the tasks and the chain: how many threads are told apart, those that are named,
+-- the count of switches, and the end
 unfoldable pub end_text : ℕ → List ThreadRow → ℕ → List ℕ
 end_text unlisted threads jumps =
     codes "unlisted " ++ line (canonical_number unlisted) ++ thread_lines threads ++ codes "jumps "

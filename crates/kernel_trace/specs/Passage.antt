@@ -3,7 +3,8 @@
 -- and no history is kept, so that no list of events is too long. In its place a moment is too late
 -- that is 2^63 microseconds after the first change.
 use Rattle.std.specs.Prelude.{◌≡◌, ℕ, ◌-◌, Bool, true, false, nat_eq, nat_lt, ◌||◌, is_some, List}
-use Rattle.std.specs.Prelude.{[], ◌∷◌, ◌++◌, length, map, set, position, Option, None, Some, if◌then◌else◌}
+use Rattle.std.specs.Prelude.{[], ◌∷◌, ◌++◌, length, map, set, position, Option, None, Some}
+use Rattle.std.specs.Prelude.{if◌then◌else◌}
 use Rattle.task_set.specs.TaskSet.{SetData}
 use Rattle.text_fields.specs.Lines.{lines_of, fields_of}
 use Rattle.text_fields.specs.Machine.{Outcome, Leads, Fails}

@@ -1,8 +1,10 @@
 -- What the passages of a trace are, in the words of the trace: its used lines from the first change
 -- on, with what they say of who runs where and which of their mentions change whether a task is
 -- ready.
-use Rattle.std.specs.Prelude.{◌≡◌, ℕ, ◌+◌, ◌-◌, ◌<◌, ◌≤◌, ◌==◌, Bool, false, ◌||◌, is_some, List, []}
-use Rattle.std.specs.Prelude.{◌∷◌, ◌++◌, length, take, map, fold, All, Option, None, Some, option_to_list}
+use Rattle.std.specs.Prelude.{◌≡◌, ℕ, ◌+◌, ◌-◌, ◌<◌, ◌≤◌, ◌==◌, Bool, false, ◌||◌, is_some, List}
+use Rattle.std.specs.Prelude.{[]}
+use Rattle.std.specs.Prelude.{◌∷◌, ◌++◌, length, take, map, fold, All, Option, None, Some}
+use Rattle.std.specs.Prelude.{option_to_list}
 use Rattle.std.specs.Prelude.{slice_index_or, if◌then◌else◌}
 use Rattle.std.specs.List.{list_any}
 use Rattle.text_fields.specs.Lines.{lines_of, fields_of}
@@ -160,9 +162,9 @@ pub record ArePassagesOf (waking : Bool) (ids : List ℕ) (number : ℕ → Opti
 -- the bytes are the lines of a head, the line `events` and the lines of a trace, and the trace has
 -- the set of the head and the passages of its lines: for each number n, the first passages are
 -- those of the first n lines; no moment is less than the one before; and each change is one. They
--- are of the tasks of the set and of the threads that the used lines tell apart, and begin at moment
--- 0. The clock is that of the first used line that has a change, and a task is mentioned where some
--- used line mentions it
+-- are of the tasks of the set and of the threads that the used lines tell apart, and begin at
+-- moment 0. The clock is that of the first used line that has a change, and a task is mentioned
+-- where some used line mentions it
 pub record IsTaskTrace (bytes : List ℕ) (trace : TaskTraceData) : Type 0 where
   pub look : SurveyData
   pub surveyed : look ≡ survey_of (lines_of bytes)

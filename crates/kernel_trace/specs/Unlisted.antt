@@ -1,8 +1,8 @@
 -- Threads that the head does not list. Such a thread is told apart where a used switch gives it a
 -- priority of real time; the first 1,024 that the lines name so are, and all others are nobody. The
 -- tasks have the first numbers, and those told apart the next ones, in the order in which they are
--- named. Which of them are is known at the end alone: while a text is read, a thread that is no task
--- has its id after the tasks for a number.
+-- named. Which of them are is known at the end alone: while a text is read, a thread that is no
+-- task has its id after the tasks for a number.
 use Rattle.std.specs.Prelude.{ℕ, ◌+◌, ◌-◌, Bool, not, ◌&&◌, nat_eq, nat_lt, nat_le, List, [], ◌∷◌}
 use Rattle.std.specs.Prelude.{◌++◌, length, position, Option, None, Some, if◌then◌else◌}
 use Rattle.std.specs.List.{list_any}

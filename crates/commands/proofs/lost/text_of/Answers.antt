@@ -69,16 +69,19 @@ returns c =
     let named : List ThreadRow = c.in_ok-lost_threads.field-0.items in
     let tasks : c.len-tasks.result ≡ length trace.set.tasks = rw c.set.ensures at c.len-tasks.ensures.value in
     let unlisted = c.unlisted.ensures.value in
-    let threads : c.len-tasks.result + c.unlisted.result ≡ length trace.set.tasks + length trace.unlisted = omega (arith, tasks, unlisted) in
+    let threads : c.len-tasks.result + c.unlisted.result ≡ length trace.set.tasks
+    + length trace.unlisted = omega (arith, tasks, unlisted) in
     let are : AreLosses trace.set (length trace.set.tasks + length trace.unlisted) trace.passages found.span losses beside =
     subst (λ (set : SetData). AreLosses set (length trace.set.tasks + length trace.unlisted) trace.passages found.span losses beside)
     c.set-2.ensures
     (subst (λ (passages : List Passage).
     AreLosses c.set-2.result.now (length trace.set.tasks + length trace.unlisted) passages found.span losses beside)
     c.passages.ensures
-    (subst (λ (n : ℕ). AreLosses c.set-2.result.now n c.passages.result.now found.span losses beside) threads c.in_ok-found.ensures.losses)) in
+    (subst (λ (n : ℕ). AreLosses c.set-2.result.now n c.passages.result.now found.span losses beside)
+    threads c.in_ok-found.ensures.losses)) in
     let most : AreMost 10 (thread_rows trace.unlisted (drop (length trace.set.tasks) beside)) named =
-    subst (λ (counts : List ℕ). AreMost 10 (thread_rows trace.unlisted (drop (length trace.set.tasks) counts)) named) c.deref-3.ensures.value
+    subst (λ (counts : List ℕ). AreMost 10 (thread_rows trace.unlisted (drop (length trace.set.tasks) counts)) named)
+    c.deref-3.ensures.value
     c.in_ok-lost_threads.ensures in
     let rows : c.deref-4.result.now ≡ told_rows trace.mentioned 0 losses =
     c.deref-4.ensures.value ∙ c.in_ok-rows.ensures ∙ ap (told_rows trace.mentioned 0) c.deref.ensures.value in

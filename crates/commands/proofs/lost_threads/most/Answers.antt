@@ -9,4 +9,3 @@ loop-i-preserved c =
     let rows : List ThreadRow = c.args.rows.now in
     subst (λ (list : List ThreadRow). IsFound list c.greater-found.result) (sym (take_more rows c.loop-i.i no_row c.loop-i-test.true))
     (c.greater-found.ensures (take c.loop-i.i rows) c.loop-i.invariant)
-

@@ -1,4 +1,4 @@
-use Rattle.std.proofs.Common.{◌≡◌, ℕ, ◌+◌, ◌-◌, ◌<◌, ◌≤◌, List, [], ◌∷◌, ◌++◌, map, sym, ap, ◌∙◌, subst, arith, append_assoc, append-nil}
+use Rattle.std.proofs.Common.{◌≡◌, ◌+◌, ◌-◌, List, [], ◌∷◌, ◌++◌, map, sym, ap, ◌∙◌, subst, arith, append_assoc, append-nil}
 use Rattle.kernel_trace.specs.declared.loss_text.ThreadRow.{ThreadRow}
 use Rattle.commands.specs.LostThreads.{IsMost, NoneRan, rested, AreMost}
 use Rattle.commands.proofs.LostThreads.{one_named, none_named, all_named}

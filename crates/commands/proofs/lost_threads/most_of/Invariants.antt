@@ -1,4 +1,4 @@
-use Rattle.std.proofs.Common.{ℕ, ◌-◌, List, ◌++◌}
+use Rattle.std.proofs.Common.{◌-◌, List, ◌++◌}
 use Rattle.kernel_trace.specs.declared.loss_text.ThreadRow.{ThreadRow}
 use Rattle.commands.specs.LostThreads.{AreMost}
 use Rattle.commands.proofs.lost_threads.most_of.Given as goal

@@ -13,7 +13,8 @@ loop-i-preserved c =
     let one : ThreadRow = c.index.result.now in
     let below : c.loop-i.i < length now = search rules in
     let same : length now ≡ length all = c.loop-i.invariant.1 in
-    let there : one ≡ get_or now c.loop-i.i one = search rules in
-    (ap (slice_set now c.loop-i.i) c.rested.ensures
-    ∙ map_over_more f all now c.loop-i.i one (omega (arith, below, same)) c.loop-i.invariant.0 there,
-    length-set now c.loop-i.i c.rested.result ∙ same)
+    let there : one ≡ get_or now c.loop-i.i one = search rules in (
+      ap (slice_set now c.loop-i.i) c.rested.ensures
+          ∙ map_over_more f all now c.loop-i.i one (omega (arith, below, same)) c.loop-i.invariant.0 there,
+      length-set now c.loop-i.i c.rested.result ∙ same,
+    )

@@ -29,7 +29,8 @@ followed_line look step.Header c start passages unlisted line outcome head comes
     (outcome, head_line look step.Header c line outcome head comes, refl)
 followed_line look step.Processors c start passages unlisted line outcome head comes =
     (outcome, head_line look step.Processors c line outcome head comes, refl)
-followed_line look step.Head c start passages unlisted line outcome head comes = (outcome, head_line look step.Head c line outcome head comes, refl)
+followed_line look step.Head c start passages unlisted line outcome head comes =
+    (outcome, head_line look step.Head c line outcome head comes, refl)
 followed_line look step.Trace c start passages unlisted line outcome head comes = absurd (head refl)
 
 refused_line : (look : SurveyData) (s : Step) (c : CourseData) (start : Option ℕ) (passages : List Passage) (unlisted line : List ℕ)
@@ -37,7 +38,8 @@ refused_line : (look : SurveyData) (s : Step) (c : CourseData) (start : Option �
     → IsRefusedBy (IsLineOutcome 4096 true trace_kind IsHeadOutcome (progress_at s c) line) kind
     → IsRefusedAs (IsFollowed look (following_at s c start passages unlisted) line) kind
 refused_line look s c start passages unlisted line kind head (inl memory) = inl memory
-refused_line look s c start passages unlisted line kind head (inr comes) = inr (followed_line look s c start passages unlisted line (Fails kind) head comes)
+refused_line look s c start passages unlisted line kind head (inr comes) =
+    inr (followed_line look s c start passages unlisted line (Fails kind) head comes)
 
 pub returns-in_default : goal.returns-in_default
 returns-in_default c =
@@ -47,7 +49,8 @@ returns-in_default c =
     let f = following_of c.args.self.now in
     record {
       read = on_ok c.after_head_line.result
-          (λ comes. followed_line look s known f.start f.passages f.unlisted c.args.line.now (Leads (progress_of c.after_head_line.new.self))
+          (λ comes. followed_line look s known f.start f.passages f.unlisted c.args.line.now
+          (Leads (progress_of c.after_head_line.new.self))
           c.in_default.not-Trace comes)
           c.after_head_line.ensures.read;
       refused = on_err c.after_head_line.result
