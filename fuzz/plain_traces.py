@@ -7,7 +7,7 @@ and who runs is said for each stretch between two lines. Stamps are numbers of n
 import re
 
 from plain_jobs import HORIZONS, MOST_JOBS
-from plain_scheduler import State, step
+from plain_scheduler import State, chains_from, least, step
 from plain_texts import Fault, Text, listed, number
 from texts import MOST_EVENTS, canonical_list
 
@@ -424,6 +424,34 @@ def beside_of(trace, events):
     return found
 
 
+def chain_of(trace, events, task, first):
+    """What would have given a lost task a processor at a moment: each task that would have gone elsewhere, with its processor."""
+    state = State(trace.processors, [(priority, frozenset(mask)) for priority, mask in trace.tasks])
+    come = [line for line in events.lines if line[0] <= first]
+    for _moment, _processor, _tasks, changed in come:
+        for other, is_in in changed:
+            step(state, ('arrive' if is_in else 'depart', other))
+    running, on = runs_after(events.lines, len(come)), {}
+    for other in sorted(state.on.values(), key=lambda t: -state.priorities[t]):
+        on.update((p, other) for p in running.get(other, ()) if p in state.mask(other))
+    chains = chains_from(state.mask(task), lambda p: state.mask(on[p]) if p in on else ())
+    steps = []
+    for p in least(chain for p, chain in chains.items() if p not in on):
+        steps.append((task, p))
+        task = on.get(p)
+    return steps
+
+
+def chain_lines(trace, events, longest):
+    """The chain for the longest of the longest stretches, of several that of the first task."""
+    if not longest or not max(count for count, _first, _rivals in longest):
+        return ['chain - -']
+    task = max(range(len(longest)), key=lambda t: longest[t][0])
+    first = longest[task][1]
+    steps = chain_of(trace, events, task, first)
+    return [f'chain {first} {stamp_at(events, first)}', *(f'{trace.names[t].decode()} to {p}' for t, p in steps)]
+
+
 def stamp_at(events, moment):
     """The clock of the trace at a moment."""
     if moment is None or events.first is None or events.first >= 1 << 63:
@@ -439,7 +467,8 @@ def answer_to_lost(data):
     except Fault as fault:
         return 3, b'', (fault.line, fault.kind)
     lines = ['lost 3', f'span {events.span()} at {stamp_at(events, 0)}']
-    for task, (ready, ran, lost, (count, first, rivals), over) in enumerate(losses_of(trace, events)):
+    found = losses_of(trace, events)
+    for task, (ready, ran, lost, (count, first, rivals), over) in enumerate(found):
         name = trace.names[task].decode()
         if task not in trace.mentioned:
             lines.append(f'{name} -')
@@ -447,6 +476,7 @@ def answer_to_lost(data):
         most = max(rivals, key=lambda t: (rivals[t], trace.tasks[t][0])) if rivals else None
         lines.append(f'{name} ready {ready} ran {ran} lost {lost} over {over} longest {count} at {"-" if first is None else first} '
                      f'{stamp_at(events, first)} while {"nobody" if most is None else trace.names[most].decode()}')
+    lines += chain_lines(trace, events, [numbers[3] for numbers in found])
     beside = beside_of(trace, events)
     lines.append(f'unlisted {len(beside)}')
     most = sorted((thread for thread in beside if beside[thread]), key=lambda thread: (-beside[thread], thread))

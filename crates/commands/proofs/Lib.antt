@@ -10,6 +10,7 @@ pub mod LegalSchedules
 pub mod LineCounts
 pub mod ListedJobs
 pub mod LossRows
+pub mod LostChain
 pub mod LostThreads
 pub mod MadeTexts
 pub mod NestedAnswers

@@ -11,6 +11,7 @@ use Rattle.trace_losses.specs.Watch.{IsMostOf}
 use Rattle.trace_losses.specs.declared.loss.Loss.{Loss}
 use Rattle.trace_passages.specs.declared.passage.Passage.{Passage}
 use Rattle.commands.specs.Lost.{told_row, told_rows, AreNumbered}
+use Rattle.commands.specs.LostChain.{no_loss}
 
 -- the rival is one of so many tasks
 abbrev HasRivalOf : ℕ → Loss → Type 0
@@ -44,10 +45,6 @@ numbered set threads passages units losses beside bound are =
     narrow : (rival : Option ℕ) → IfSome rival (λ t. t < length set.tasks) → IfSome rival (λ t. t < 2 ^ 32)
     narrow None within = tt
     narrow (Some u) within = omega (arith, bound, within)
-
--- what stands for a loss where there is none
-abbrev pub no_loss : Loss
-no_loss = record { ready = 0; served = 0; lost = 0; over = 0; longest = record { first = 0; count = 0 }; rival = None }
 
 -- ---- rows
 -- a row has a rival of so many tasks

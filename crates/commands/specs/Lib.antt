@@ -10,6 +10,7 @@ pub mod JobsLaws
 pub mod JobsRun
 pub mod JobsSchedule
 pub mod Lost
+pub mod LostChain
 pub mod LostThreads
 pub mod NestedRun
 pub mod Reading

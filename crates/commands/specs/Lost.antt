@@ -7,12 +7,14 @@ use Rattle.kernel_trace.specs.LossText.{loss_text}
 use Rattle.kernel_trace.specs.Passage.{TaskTraceData, IsTaskTraceText, IsTaskTraceRefused}
 use Rattle.kernel_trace.specs.Passages.{IsTaskTrace}
 use Rattle.kernel_trace.specs.declared.loss_text.LossRow.{LossRow}
+use Rattle.kernel_trace.specs.declared.loss_text.StepRow.{StepRow}
 use Rattle.kernel_trace.specs.declared.loss_text.ThreadRow.{ThreadRow}
 use Rattle.task_set.specs.TaskSet.{IsTaskSet}
 use Rattle.trace_losses.specs.Jumps.{AreJumps}
 use Rattle.trace_losses.specs.Losses.{AreLosses}
 use Rattle.trace_losses.specs.declared.loss.Loss.{Loss}
 use Rattle.commands.specs.Import.{RefusesTraceText}
+use Rattle.commands.specs.LostChain.{IsLostChain}
 use Rattle.commands.specs.LostThreads.{AreMost, thread_rows}
 use Rattle.commands.specs.Refusal.{IsAnsweredInput}
 use Rattle.commands.specs.declared.status.Status.{Status}
@@ -45,31 +47,37 @@ abbrev pub AreNumbered : List Loss → Type 0
 AreNumbered losses = All (λ (loss : Loss). IfSome loss.rival (λ t. t < 2 ^ 32)) losses
 
 -- the bytes are the text of the span of a trace with the clock of its first moment, of what each of
--- its tasks lost that a used line mentions, of how many other threads are told apart and which ten
+-- its tasks lost that a used line mentions, of the chain that was not taken for the longest stretch
+-- of lost moments, of how many other threads are told apart and which ten
 -- of them ran most while a task was lost, and of how many switches are from another thread than the
 -- one that came last
 pub record IsLossText (trace : TaskTraceData) (put : List ℕ) : Type 0 where
   pub units : ℕ
   pub losses : List Loss
   pub beside : List ℕ
+  pub count : ℕ
+  pub first : ℕ
+  pub steps : List StepRow
   pub threads : List ThreadRow
   pub jumps : ℕ
   pub valid : IsTaskSet trace.set
   pub are : AreLosses trace.set (length trace.set.tasks + length trace.unlisted)
       trace.passages units
       losses beside
+  pub is_chain : IsLostChain trace.set trace.passages losses count first steps
   pub are_most : AreMost 10 (thread_rows trace.unlisted (drop (length trace.set.tasks) beside))
       threads
   pub are_jumps : AreJumps trace.passages jumps
   pub text : put ≡ loss_text trace.set trace.clock units (told_rows trace.mentioned 0 losses)
-      (length trace.unlisted) threads jumps
+      count first steps (length trace.unlisted) threads jumps
 
 -- the bytes read are the text of a trace, and the bytes written are the text of what its tasks
 -- lost: of each task the number of moments of the span at which it is ready, at which it is ready
 -- and runs, and at which it is in the best placeable set of the ready tasks and runs nowhere; how
 -- many of the latter stand in stretches of more than 50; the longest stretch of them, the first of
--- several; and who ran most in it without being in that set; and of the threads that are told apart
--- the number of moments at which each runs while some task is lost
+-- several; and who ran most in it without being in that set; of the longest of all these stretches
+-- the chain that would have given its task a processor at its first moment; and of the threads that
+-- are told apart the number of moments at which each runs while some task is lost
 pub record IsLossOf (read put : List ℕ) : Type 0 where
   pub trace : TaskTraceData
   pub is_text : IsTaskTraceText read trace

@@ -13,6 +13,7 @@ mod jobs;
 mod jobs_schedule;
 pub mod laws;
 mod lost;
+mod lost_chain;
 mod lost_threads;
 mod nested;
 mod reporting;

@@ -5,6 +5,7 @@ ghost use Rattle.commands.specs.Answers.{Answers};
 ghost use Rattle.commands.specs.Lost.{loss_row, told_row, told_rows, AreNumbered, IsLossText, IsLossOf, AcceptsTaskTrace, RefusesTaskTrace};
 
 use crate::import::status_of;
+use crate::lost_chain::lost_chain;
 use crate::lost_threads::lost_threads;
 use crate::status::Status;
 use affinity_mask::OutOfMemory;
@@ -36,6 +37,7 @@ fn text_of(alloc: Global, trace: &TaskTrace) -> Result<Vec<u8>, OutOfMemory>
     let found = losses_of(alloc, trace.set(), threads, trace.passages())?;
     let rows = rows_of(alloc, trace, &found.losses)?;
     let end = LossEnd {
+        chain: lost_chain(alloc, trace, threads, &found.losses)?,
         unlisted: trace.unlisted(),
         threads: lost_threads(alloc, trace, &found.beside)?,
         jumps: found.jumps,

@@ -5,8 +5,9 @@ use Rattle.task_set.specs.TaskSet.{SetData}
 use Rattle.text_fields.specs.EventText.{name_of}
 use Rattle.kernel_trace.specs.StampText.{stamp_text}
 use Rattle.kernel_trace.specs.LossText.{moment_text, rival_text, row_text, told_text, loss_line, loss_lines, span_text, thread_line}
-use Rattle.kernel_trace.specs.LossText.{thread_lines, end_text, loss_text}
+use Rattle.kernel_trace.specs.LossText.{thread_lines, step_line, step_lines, chain_text, end_text, loss_text}
 use Rattle.kernel_trace.specs.declared.loss_text.LossRow.{LossRow}
+use Rattle.kernel_trace.specs.declared.loss_text.StepRow.{StepRow}
 use Rattle.kernel_trace.specs.declared.loss_text.ThreadRow.{ThreadRow}
 
 -- ---- a line
@@ -55,6 +56,25 @@ unfolding thread_line
 thread_written row t0 t1 t2 t3 e1 e2 e3 =
     rw (e3, e2, e1) (thread_pieces t0 (codes "thread ") (canonical_number row.id) (codes " ran ") (canonical_number row.ran) (10 ∷ []))
 
+step_pieces : (old a b c d : List ℕ) → old ++ a ++ b ++ c ++ d ≡ old ++ (a ++ b ++ (c ++ d))
+step_pieces old a b c d = simp append_assoc
+
+pub step_written : (set : SetData) (step : StepRow) (t0 t1 t2 t3 : List ℕ) → t1 ≡ t0 ++ name_of set step.task
+    → t2 ≡ t1 ++ codes " to " ++ canonical_number step.processor → t3 ≡ t2 ++ 10 ∷ [] → t3 ≡ t0 ++ step_line set step
+unfolding step_line
+step_written set step t0 t1 t2 t3 e1 e2 e3 =
+    rw (e3, e2, e1) (step_pieces t0 (name_of set step.task) (codes " to ") (canonical_number step.processor) (10 ∷ []))
+
+chain_pieces : (old a b c d : List ℕ) → old ++ a ++ b ++ c ++ d ≡ old ++ (a ++ (b ++ c) ++ d)
+chain_pieces old a b c d = simp append_assoc
+
+pub chain_written : (set : SetData) (clock : Option ℕ) (count first : ℕ) (steps : List StepRow) (t0 t1 t2 t3 t4 : List ℕ)
+    → t1 ≡ t0 ++ codes "chain " → t2 ≡ t1 ++ moment_text clock count first → t3 ≡ t2 ++ 10 ∷ [] → t4 ≡ t3 ++ step_lines set steps
+    → t4 ≡ t0 ++ chain_text set clock count first steps
+unfolding chain_text
+chain_written set clock count first steps t0 t1 t2 t3 t4 e1 e2 e3 e4 =
+    rw (e4, e3, e2, e1) (chain_pieces t0 (codes "chain ") (moment_text clock count first) (10 ∷ []) (step_lines set steps))
+
 end_pieces : (old a b c d e f g : List ℕ)
     → old ++ a ++ b ++ c ++ d ++ e ++ f ++ (10 ∷ g) ≡ old ++ (a ++ (b ++ c) ++ d ++ e ++ (f ++ 10 ∷ []) ++ g)
 end_pieces old a b c d e f g = simp append_assoc
@@ -69,9 +89,10 @@ end_written unlisted threads jumps t0 t1 t2 t3 t4 t5 e1 e2 e3 e4 e5 =
     (canonical_number jumps)
     (codes "end\n"))
 
-pub text_written : (set : SetData) (clock : Option ℕ) (span : ℕ) (rows : List (Option LossRow)) (unlisted : ℕ)
-    (threads : List ThreadRow) (jumps : ℕ) (t0 t1 t2 t3 : List ℕ)
+pub text_written : (set : SetData) (clock : Option ℕ) (span : ℕ) (rows : List (Option LossRow)) (count first : ℕ)
+    (steps : List StepRow) (unlisted : ℕ) (threads : List ThreadRow) (jumps : ℕ) (t0 t1 t2 t3 t4 : List ℕ)
     → t0 ≡ []
-    → t1 ≡ t0 ++ span_text clock span → t2 ≡ t1 ++ loss_lines set clock 0 rows → t3 ≡ t2 ++ end_text unlisted threads jumps
-    → t3 ≡ loss_text set clock span rows unlisted threads jumps
-text_written set clock span rows unlisted threads jumps t0 t1 t2 t3 e0 e1 e2 e3 = rw (e3, e2, e1, e0) refl
+    → t1 ≡ t0 ++ span_text clock span → t2 ≡ t1 ++ loss_lines set clock 0 rows → t3 ≡ t2 ++ chain_text set clock count first steps
+    → t4 ≡ t3 ++ end_text unlisted threads jumps
+    → t4 ≡ loss_text set clock span rows count first steps unlisted threads jumps
+text_written set clock span rows count first steps unlisted threads jumps t0 t1 t2 t3 t4 e0 e1 e2 e3 e4 = rw (e4, e3, e2, e1, e0) refl

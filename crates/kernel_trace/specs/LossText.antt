@@ -2,10 +2,13 @@
 -- and for each task that the trace mentions at how many moments it was ready, ran, and was lost,
 -- and how many of the lost ones stand in a long stretch; the longest stretch of lost moments with
 -- its first one and the clock then, `-` where there is none; and the task that ran then. A task
--- that no line mentions has `-`. After the tasks stand how many other threads are told apart, and
--- those of them that ran most while a task was lost. Last stands how many switches are from another
--- thread than the one that the switch before it on the same processor went to. Lines end with a
--- line feed, fields are separated by one space, and numbers are canonical.
+-- that no line mentions has `-`. After the tasks stands the chain that was not taken for the
+-- longest of all stretches: its first moment with the clock then, `-` where no task was lost, and a
+-- line for each task that would have gone to another processor. Then stand how many other threads
+-- are told apart, and those of them that ran most while a task was lost. Last stands how many
+-- switches are from another thread than the one that the switch before it on the same processor
+-- went to. Lines end with a line feed, fields are separated by one space, and numbers are
+-- canonical.
 use Rattle.std.specs.Prelude.{ℕ, ◌+◌, ◌==◌, List, [], ◌∷◌, ◌++◌, codes, Option, Some, None}
 use Rattle.std.specs.Prelude.{if◌then◌else◌}
 use Rattle.affinity_mask.specs.Number.{canonical_number}
@@ -14,6 +17,7 @@ use Rattle.text_fields.specs.EventText.{name_of}
 use Rattle.text_fields.specs.LineText.{line}
 use Rattle.kernel_trace.specs.StampText.{stamp_text, clock_after}
 use Rattle.kernel_trace.specs.declared.loss_text.LossRow.{LossRow}
+use Rattle.kernel_trace.specs.declared.loss_text.StepRow.{StepRow}
 use Rattle.kernel_trace.specs.declared.loss_text.ThreadRow.{ThreadRow}
 
 -- the first moment of so many, with its clock, by that of moment 0
@@ -55,6 +59,20 @@ unfoldable pub span_text : Option ℕ → ℕ → List ℕ
 span_text clock span =
     codes "lost 3\nspan " ++ canonical_number span ++ codes " at " ++ line (stamp_text clock)
 
+-- the line of a step of a chain: a task, and the processor that it would have gone to
+unfoldable pub step_line : SetData → StepRow → List ℕ
+step_line set step = name_of set step.task ++ codes " to " ++ line (canonical_number step.processor)
+
+-- the lines of some steps
+abbrev pub step_lines : SetData → List StepRow → List ℕ
+step_lines set [] = []
+step_lines set (step ∷ rest) = step_line set step ++ step_lines set rest
+
+-- the chain for a stretch of so many moments from the first one on
+unfoldable pub chain_text : SetData → Option ℕ → ℕ → ℕ → List StepRow → List ℕ
+chain_text set clock count first steps =
+    codes "chain " ++ line (moment_text clock count first) ++ step_lines set steps
+
 -- the line of a thread
 unfoldable pub thread_line : ThreadRow → List ℕ
 thread_line row =
@@ -65,15 +83,16 @@ abbrev pub thread_lines : List ThreadRow → List ℕ
 thread_lines [] = []
 thread_lines (row ∷ rest) = thread_line row ++ thread_lines rest
 
--- what stands after the tasks: how many threads are told apart, those that are named, the count of
--- switches, and the end
+-- what stands after the tasks and the chain: how many threads are told apart, those that are named,
+-- the count of switches, and the end
 unfoldable pub end_text : ℕ → List ThreadRow → ℕ → List ℕ
 end_text unlisted threads jumps =
     codes "unlisted " ++ line (canonical_number unlisted) ++ thread_lines threads ++ codes "jumps "
     ++ line (canonical_number jumps) ++ codes "end\n"
 
 -- the whole text
-abbrev pub loss_text : SetData → Option ℕ → ℕ → List (Option LossRow) → ℕ → List ThreadRow → ℕ
-    → List ℕ
-loss_text set clock span rows unlisted threads jumps =
-    span_text clock span ++ loss_lines set clock 0 rows ++ end_text unlisted threads jumps
+abbrev pub loss_text : SetData → Option ℕ → ℕ → List (Option LossRow) → ℕ → ℕ → List StepRow → ℕ
+    → List ThreadRow → ℕ → List ℕ
+loss_text set clock span rows count first steps unlisted threads jumps =
+    span_text clock span ++ loss_lines set clock 0 rows ++ chain_text set clock count first steps
+    ++ end_text unlisted threads jumps

@@ -27,7 +27,7 @@ pub mod task_trace;
 pub mod unlisted;
 
 pub use fault::{TraceFault, TraceKind};
-pub use loss_text::{LossEnd, LossRow, ThreadRow, write_losses};
+pub use loss_text::{ChainRow, LossEnd, LossRow, StepRow, ThreadRow, write_losses};
 pub use read::read_trace;
 pub use stamp_text::write_stamp;
 pub use task_trace::{TaskTrace, read_task_trace};

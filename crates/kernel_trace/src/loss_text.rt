@@ -1,7 +1,7 @@
 //! The text of what a kernel did beside the best set.
 ghost use Rattle.std.specs.Prelude.{◌≡◌, ◌<◌, ◌++◌, length, All, IfOk, OnOk, IfSome};
 ghost use Rattle.affinity_mask.specs.Number.{canonical_number};
-ghost use Rattle.kernel_trace.specs.LossText.{moment_text, rival_text, row_text, told_text, loss_line, loss_lines, span_text, thread_line, thread_lines, end_text, loss_text};
+ghost use Rattle.kernel_trace.specs.LossText.{moment_text, rival_text, row_text, told_text, loss_line, loss_lines, span_text, thread_line, thread_lines, step_line, step_lines, chain_text, end_text, loss_text};
 
 use crate::stamp_text::{write_stamp, write_stamp_after};
 use affinity_mask::OutOfMemory;
@@ -36,9 +36,31 @@ pub struct ThreadRow {
     pub ran: u64,
 }
 
+/// A task of a chain, and the processor that it would have gone to.
+#[derive(Clone, Copy)]
+pub struct StepRow {
+    pub task: u32,
+    pub processor: u8,
+}
+
+/// The chain that was not taken for the longest stretch of lost moments.
+#[derive(Drop)]
+pub struct ChainRow {
+    /// How many moments the stretch has; none where no task was lost.
+    pub count: u64,
+
+    /// The first moment of it.
+    pub first: u64,
+
+    /// The lost task, and then whoever would have had to move.
+    pub steps: Vec<StepRow>,
+}
+
 /// What stands after the tasks.
 #[derive(Drop)]
 pub struct LossEnd {
+    pub chain: ChainRow,
+
     /// How many threads are told apart that are no tasks.
     pub unlisted: u32,
 
@@ -62,12 +84,15 @@ pub fn write_losses(
     requires tasks { length rows.now ≡ length set.now.tasks }
     requires rivals { All (λ row. IfSome row
         (λ row. IfSome row.rival (λ t. t < length set.now.tasks))) rows.now }
+    requires steps { All (λ step. step.task < length set.now.tasks) end.now.chain.steps.items }
     ensures { IfOk result (λ text. text.items ≡ loss_text set.now clock span rows.now
+        end.now.chain.count end.now.chain.first end.now.chain.steps.items
         end.now.unlisted end.now.threads.items end.now.jumps) }
 {
     let mut text = Vec::new(alloc);
     write_span(&mut text, clock, span)?;
     write_rows(&mut text, set, clock, rows)?;
+    write_chain(&mut text, set, clock, &end.chain)?;
     write_end(&mut text, end)?;
     Ok(text)
 }
@@ -160,7 +185,47 @@ fn write_row(
     Ok(())
 }
 
-/// Appends what stands after the tasks.
+/// Appends the chain.
+fn write_chain(
+    text: &mut Vec<u8>,
+    set: &TaskSet,
+    clock: Option<u64>,
+    chain: &ChainRow,
+) -> Result<(), OutOfMemory>
+    requires { All (λ step. step.task < length set.now.tasks) chain.now.steps.items }
+    ensures { OnOk result (text.new.items ≡ text.old.items
+        ++ chain_text set.now clock chain.now.count chain.now.first chain.now.steps.items) }
+{
+    text.extend_from_slice(b"chain ")?;
+    write_moment(text, clock, chain.count, chain.first)?;
+    text.push(b'\n')?;
+    write_steps(text, set, &chain.steps)?;
+    Ok(())
+}
+
+/// Appends the lines of the steps of a chain.
+fn write_steps(text: &mut Vec<u8>, set: &TaskSet, steps: &[StepRow]) -> Result<(), OutOfMemory>
+    requires { All (λ step. step.task < length set.now.tasks) steps.now }
+    ensures { OnOk result (text.new.items ≡ text.old.items ++ step_lines set.now steps.now) }
+{
+    for i in 0..steps.len() {
+        write_step(text, set, steps[i])?;
+    }
+    Ok(())
+}
+
+/// Appends the line of a step.
+fn write_step(text: &mut Vec<u8>, set: &TaskSet, step: StepRow) -> Result<(), OutOfMemory>
+    requires { step.task < length set.now.tasks }
+    ensures { OnOk result (text.new.items ≡ text.old.items ++ step_line set.now step) }
+{
+    write_name(text, set, step.task)?;
+    write_count(text, b" to ", step.processor as u64)?;
+    text.push(b'\n')?;
+    Ok(())
+}
+
+/// Appends what stands after the tasks and the chain.
 fn write_end(text: &mut Vec<u8>, end: &LossEnd) -> Result<(), OutOfMemory>
     ensures { OnOk result (text.new.items ≡ text.old.items ++ end_text end.now.unlisted end.now.threads.items
         end.now.jumps) }

@@ -4,7 +4,8 @@ use Rattle.std.proofs.lemmas.List.Elements.{All-get_or}
 use Rattle.trace_losses.specs.declared.loss.Loss.{Loss}
 use Rattle.kernel_trace.specs.declared.loss_text.LossRow.{LossRow}
 use Rattle.commands.specs.Lost.{told_row, told_rows}
-use Rattle.commands.proofs.LossRows.{no_loss, told_more}
+use Rattle.commands.specs.LostChain.{no_loss}
+use Rattle.commands.proofs.LossRows.{told_more}
 use Rattle.commands.proofs.lost.rows_of.Goals as goal
 
 pub told_row-requires : goal.told_row-requires
