@@ -41,6 +41,7 @@ threads() {
 processes() {
     for word in "$@"; do
         case $word in
+        '') fail 'the name of a process is empty' ;;
         *[!0-9]*)
             found=$(cd -- "$proc" && for file in $(grep -lxF -e "$(printf '%.15s' "$word")" -- [0-9]*/comm 2>/dev/null); do
                 ! is_other "${file%/comm}" "$word" || continue
