@@ -14,6 +14,7 @@ mod HeadSplit
 mod Turns
 mod InOrder
 mod Settled
+mod ToldApart
 mod ReadPassages
 mod Kept
 pub mod Imported

@@ -33,7 +33,7 @@ use Rattle.kernel_trace.proofs.Positions.{position_later, position_some}
 module _ (P : List ℕ → Type 0) (ids : List ℕ)
     (keeps : (unlisted : List ℕ) (thread : Thread) → P unlisted → is_unlisted ids thread ≡ true → length unlisted < 1024
     → P (with_id unlisted thread.id)) where
-  named_keeps : (unlisted : List ℕ) (thread : Thread) → P unlisted → P (with_named ids unlisted thread)
+  pub named_keeps : (unlisted : List ℕ) (thread : Thread) → P unlisted → P (with_named ids unlisted thread)
   named_keeps unlisted thread holds = by (is_unlisted ids thread) refl (nat_lt (length unlisted) 1024) refl
     where
       by : (a : Bool) → is_unlisted ids thread ≡ a → (b : Bool) → nat_lt (length unlisted) 1024 ≡ b

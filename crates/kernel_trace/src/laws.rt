@@ -2,7 +2,7 @@
 //! caller in a proof gets the law by its clause.
 ghost use Rattle.kernel_trace.specs.Import.{ReadyAsMentioned, ImportIsFaithful};
 ghost use Rattle.kernel_trace.specs.Passages.{PassagesAreFaithful};
-ghost use Rattle.kernel_trace.specs.Laws.{TextHasOneInput, TextHasOneFault, InputHasNoFault, AcceptedOrRefused, TextHasOneTrace, TraceTextHasOneFault, TraceHasNoFault, TraceAcceptedOrRefused};
+ghost use Rattle.kernel_trace.specs.Laws.{TextHasOneInput, TextHasOneFault, InputHasNoFault, AcceptedOrRefused, TextHasOneTrace, TraceTextHasOneFault, TraceHasNoFault, TraceAcceptedOrRefused, UnlistedAreToldApart};
 
 /// A text is that of at most one input.
 pub fn text_has_one_input()
@@ -58,4 +58,9 @@ pub fn trace_has_no_fault()
 /// Each text is that of a trace of tasks, or is refused.
 pub fn trace_accepted_or_refused()
     ensures { TraceAcceptedOrRefused }
+{}
+
+/// The threads that used lines tell apart are at most 1,024, each once, and all that these lines name so where there are fewer.
+pub fn unlisted_are_told_apart()
+    ensures { UnlistedAreToldApart }
 {}
