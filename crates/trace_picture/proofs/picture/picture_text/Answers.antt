@@ -18,8 +18,13 @@ returns c =
     (rw (c.page_for-page.ensures, c.deref-4.ensures.value, c.processors-processors.ensures.value) at c.in_ok-write_lanes.ensures)
     (rw (c.strong_top.ensures.value, c.page_for-page.ensures, c.deref-5.ensures.value, c.processors-processors.ensures.value) at
     c.in_ok-write_lanes-2.ensures)
-    (rw (c.page_for-page.ensures, c.deref-2.ensures.value, c.deref-6.ensures.value, c.deref-7.ensures.value,
-    c.processors-processors.ensures.value) at c.in_ok-write_rows_group.ensures)
+    (rw (
+      c.page_for-page.ensures,
+      c.deref-2.ensures.value,
+      c.deref-6.ensures.value,
+      c.deref-7.ensures.value,
+      c.processors-processors.ensures.value,
+    ) at c.in_ok-write_rows_group.ensures)
     (rw (c.page_for-page.ensures, c.deref-2.ensures.value, c.processors-processors.ensures.value) at c.in_ok-write_legend.ensures)
     c.in_ok-put.ensures in
     record {
