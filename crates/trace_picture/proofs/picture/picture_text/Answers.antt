@@ -1,5 +1,5 @@
 use Rattle.std.proofs.Common.{◌≡◌, ℕ, List, subst}
-use Rattle.trace_picture.specs.Picture.{drawn_text, listed_in, page_for, text_for}
+use Rattle.trace_picture.specs.Picture.{drawn_text, listed_in, text_for}
 use Rattle.trace_picture.specs.Scene.{scene_of}
 use Rattle.trace_picture.proofs.Pieces.{parts_joined}
 use Rattle.trace_picture.proofs.picture.picture_text.Goals as goal
