@@ -33,7 +33,13 @@ fn shown(alloc: Global, trace: &TaskTrace, window: Window) -> Result<Vec<u8>, Ou
     ensures { IfOk result (λ text. IsShown window trace.now text.items) }
 {
     let part = part_of(window, trace.span());
-    let bars = bars_of(alloc, trace.set(), trace.set().len(), trace.passages(), part)?;
+    let bars = bars_of(
+        alloc,
+        trace.set(),
+        trace.set().len(),
+        trace.passages(),
+        part,
+    )?;
     let scene = Scene {
         alloc,
         set: trace.set(),
