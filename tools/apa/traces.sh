@@ -1,5 +1,5 @@
 # What is wrong with a file, before the program reads it. `apa` reads this part where it is asked for.
-# shellcheck shell=sh
+# shellcheck shell=sh disable=SC2154 # variables of apa
 
 # Why this is not a file that can be read.
 cannot_read() {
