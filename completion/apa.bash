@@ -1,7 +1,7 @@
 # Completion of apa for bash: its words, and then the files that each of them reads; all files, where none has the suffix.
 _apa() {
     local word=${COMP_WORDS[COMP_CWORD]} command=${COMP_WORDS[1]-} files=''
-    local words='run check weak nested jobs weakjobs runjobs watch draw steps chrome import importjobs lost whatif masks record govern tasks make large'
+    local words='run check weak nested jobs weakjobs runjobs watch draw steps chrome import importjobs lost show whatif masks record govern tasks make large'
     words="$words prove test install uninstall release version"
     COMPREPLY=()
     if [ "$COMP_CWORD" -eq 1 ]; then
@@ -11,8 +11,8 @@ _apa() {
     case $COMP_CWORD:$command in
     2:run | 2:weak | 2:nested | 3:watch) files='apa' ;;
     2:check | 2:draw | 2:steps | 2:chrome) files='schedule' ;;
-    2:import | 2:importjobs | 2:lost | 2:whatif | 2:masks | 2:govern) files='tasks' ;;
-    3:import | 3:importjobs | 3:lost | 3:whatif | 3:masks) files='trace' ;;
+    2:import | 2:importjobs | 2:lost | 2:show | 2:whatif | 2:masks | 2:govern) files='tasks' ;;
+    3:import | 3:importjobs | 3:lost | 3:show | 3:whatif | 3:masks) files='trace' ;;
     2:help) _apa_reply < <(compgen -W "$words" -- "$word") ;;
     *:govern) _apa_reply < <(compgen -W '--watch --log --seconds --cpu --priority --source' -- "$word") ;;
     2:record) _apa_reply < <(compgen -W '1 2 5 10' -- "$word") ;;

@@ -30,7 +30,7 @@ JOB_KINDS = (*range(1, 10), 11, 12, 14, 15, 19)
 KINDS = {
     'run': INPUT_KINDS, 'watch': INPUT_KINDS, 'weak': INPUT_KINDS, 'nested': INPUT_KINDS,
     'check': SCHEDULE_KINDS, 'draw': SCHEDULE_KINDS, 'steps': SCHEDULE_KINDS, 'chrome': SCHEDULE_KINDS,
-    'import': TRACE_KINDS, 'lost': TRACE_KINDS, 'importjobs': (*TRACE_KINDS, 14, 15), 'jobs': JOB_KINDS, 'weakjobs': JOB_KINDS,
+    'import': TRACE_KINDS, 'lost': TRACE_KINDS, 'show': TRACE_KINDS, 'importjobs': (*TRACE_KINDS, 14, 15), 'jobs': JOB_KINDS, 'weakjobs': JOB_KINDS,
     'runjobs': JOB_KINDS,
 }
 # The words that refuse a schedule with a defect, and the one that refuses by words of its own.

@@ -296,7 +296,7 @@ function explain() {
 
 BEGIN {
     for (n = 0; n < 256; n++) code[sprintf("%c", n)] = n
-    is_trace = word ~ /^(import|lost|importjobs|whatif)$/
+    is_trace = word ~ /^(import|lost|show|importjobs|whatif)$/
     header = is_trace ? "trace 1" : word ~ /jobs/ ? "jobs 1" : word ~ /^(check|draw|steps|chrome)$/ ? "schedule 1" : "apa 1"
 }
 NR == 1 {

@@ -5,7 +5,7 @@
 in_words() {
     awk -F '|' -v word="$1" -v fault="$2" -v column="$3" '
         BEGIN {
-            above["weakjobs"] = "jobs"; above["runjobs"] = "jobs"; above["importjobs"] = "lost"; above["lost"] = "import"
+            above["weakjobs"] = "jobs"; above["runjobs"] = "jobs"; above["importjobs"] = "lost"; above["lost"] = "import"; above["show"] = "lost"
             for (rank = 9; word != ""; word = above[word]) ranks[word " " fault] = rank--
             ranks["any " fault] = 1
         }
@@ -67,13 +67,13 @@ explain_fault() {
     fi
     [ -z "$text" ] || LC_ALL=C awk -v line="$number" -v fault="$fault" -v word="$1" -f "$parts/near.awk" -f "$parts/causes.awk" "$text" >&2
     case $1:$fault in
-    'import:kind 23' | 'lost:kind 23' | 'importjobs:kind 23') ! tell_nobody || return 0 ;;
+    'import:kind 23' | 'lost:kind 23' | 'show:kind 23' | 'importjobs:kind 23') ! tell_nobody || return 0 ;;
     esac
     advice=$(in_words "$1" "$fault" 3)
     [ -z "$advice" ] || tell "    = $advice"
     [ -z "$text" ] || case $1:$fault in
-    'import:kind 22' | 'lost:kind 22' | 'importjobs:kind 22') tell_window ;;
-    'import:kind 2'[01] | 'lost:kind 2'[01] | 'importjobs:kind 2'[01]) tell_whole_part ;;
+    'import:kind 22' | 'lost:kind 22' | 'show:kind 22' | 'importjobs:kind 22') tell_window ;;
+    'import:kind 2'[01] | 'lost:kind 2'[01] | 'show:kind 2'[01] | 'importjobs:kind 2'[01]) tell_whole_part ;;
     esac
 }
 

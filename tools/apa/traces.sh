@@ -1,5 +1,5 @@
 # What is wrong with a file, before the program reads it. `apa` reads this part where it is asked for.
-# shellcheck shell=sh
+# shellcheck shell=sh disable=SC2154 # variables of apa
 
 # Why this is not a file that can be read.
 cannot_read() {
@@ -41,4 +41,35 @@ refuse_other_files() {
     177ELF*) refuse "$1" 'is a program, and not a trace' ;;
     esac
     [ "$(head -c 4096 -- "$1" | tr -d '\000' | wc -c)" -eq "$(head -c 4096 -- "$1" | wc -c)" ] || refuse "$1" 'is a binary file, and not the text of a trace'
+}
+
+# The widest picture that a reader can look at.
+most_bars=20000
+
+# show_trace show TASKS TRACE [A B], or show A B of standard input. A bound that is a stamp, with a point, becomes the moment that it is.
+show_trace() {
+    case $2:${3-} in
+    *[!0-9:]* | :* | *:) ;;
+    *)
+        [ -e "$2" ] || { run_stdin "$@"; return; }
+        ;;
+    esac
+    window=''
+    [ $# -eq 3 ] || window="$(moment_of "$2" "$3" "$4") $(moment_of "$2" "$3" "$5")" || exit
+    make_folder
+    picture=$folder/picture
+    # shellcheck disable=SC2086 # two words or none
+    (run_traced show "$2" "$3" $window) >"$picture" || return
+    bars=$(grep -c '<title>' "$picture")
+    [ "$bars" -le "$most_bars" ] || fail "the picture has $bars bars, more than $most_bars that can be looked at: apa show TASKS TRACE A B shows those from A to B"
+    cat "$picture"
+}
+
+# moment_of TASKS TRACE BOUND: the microseconds from moment 0, by `lost`, where the bound is a stamp.
+moment_of() {
+    case $3 in
+    *.*) run_traced lost "$1" "$2" | LC_ALL=C awk -v bound="$3" '$1 == "span" { split($4, first, "."); split(bound, at, ".")
+        printf "%.0f", (at[1] - first[1]) * 1000000 + substr(at[2] "000000", 1, 6) - first[2]; exit }' ;;
+    *) printf '%s' "$3" ;;
+    esac
 }

@@ -25,7 +25,7 @@ explain_usage() {
 # What is wrong with the words that follow a known one.
 explain_words() {
     case $word:$# in
-    import:* | lost:* | importjobs:* | whatif:* | masks:* | tasks:* | help:* | version:* | prove:* | install:* | test:* | record:*) wrong_count "$@" ;;
+    import:* | lost:* | show:* | importjobs:* | whatif:* | masks:* | tasks:* | help:* | version:* | prove:* | install:* | test:* | record:*) wrong_count "$@" ;;
     draw:2 | steps:2) wrong_window "$1" "$2" ;;
     draw:3 | steps:3) wrong_picture "$@" ;;
     draw:* | steps:*) wrong_draw "$@" ;;
@@ -41,6 +41,7 @@ explain_words() {
 takes() {
     case $word in
     import | lost | importjobs | whatif) echo 'TASKS and TRACE, or one FILE' ;;
+    show) echo 'TASKS and TRACE, or one FILE, and a window of two numbers at most' ;;
     masks) echo 'TASKS and TRACE, or one FILE of jobs' ;;
     help) echo 'one word at most' ;;
     version) echo 'no word after it' ;;

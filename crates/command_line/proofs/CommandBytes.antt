@@ -280,7 +280,8 @@ unwindowed_words words first from to three none (Chrome start) (inl alone) = let
 unwindowed_words words first from to three none (Chrome start) (inr given) = let same = sym three ∙ given.each_word in cc
 unwindowed_words words first from to three none Lost spoken = let same = sym three ∙ spoken in cc
 unwindowed_words words first from to three none (Show window) (inl whole) = let same = sym three ∙ whole.each_word in cc
-unwindowed_words words first from to three none (Show window) (inr part) = no_window words (codes "show") first from to three none window part
+unwindowed_words words first from to three none (Show window) (inr part) =
+    no_window words (codes "show") first from to three none window part
 unwindowed_words words first from to three none (Make sizes) spoken = let same = sym three ∙ spoken.each_word in cc
 unwindowed_words words first from to three none (Large sizes) spoken = let same = sym three ∙ spoken.each_word in cc
 

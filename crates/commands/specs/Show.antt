@@ -24,10 +24,10 @@ part_of window span = record {
 abbrev pub scene_in : TaskTraceData → Part → SceneData
 scene_in trace part = record { set = trace.set; clock = trace.clock; part = part }
 
--- the bytes are the picture of the bars of the part that the window shows: of the lanes of the trace
--- who runs on which processor, as the passages say; of those of strong scheduling whom it links to
--- which one; and of the rows at which moments each task ran, was lost, and waited rightly. The
--- threads that are told apart have bars in the lanes of the trace too
+-- the bytes are the picture of the bars of the part that the window shows: of the lanes of the
+-- trace who runs on which processor, as the passages say; of those of strong scheduling whom it
+-- links to which one; and of the rows at which moments each task ran, was lost, and waited rightly.
+-- The threads that are told apart have bars in the lanes of the trace too
 pub record IsShown (window : Window) (trace : TaskTraceData) (put : List ℕ) : Type 0 where
   pub bars : Bars
   pub valid : IsTaskSet trace.set

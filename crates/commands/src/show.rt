@@ -1,5 +1,5 @@
 //! From the bytes of a trace of the Linux scheduler to a picture of what its tasks did, beside what strong scheduling would have had.
-ghost use Rattle.std.specs.Prelude.{◌≡◌, ◌+◌, length, IfOk};
+ghost use Rattle.std.specs.Prelude.{◌≡◌, ◌+◌, ◌≤◌, length, IfOk};
 ghost use Rattle.trace_passages.specs.Passages.{ArePassages};
 ghost use Rattle.commands.specs.Answers.{Answers};
 ghost use Rattle.commands.specs.Lost.{AcceptsTaskTrace, RefusesTaskTrace};
@@ -42,12 +42,15 @@ fn shown(alloc: Global, trace: &TaskTrace, window: Window) -> Result<Vec<u8>, Ou
         clock: trace.clock(),
         part,
     };
-    picture_text(&scene, &bars)
+    let text = picture_text(&scene, &bars)?;
+    Ok(text)
 }
 
 /// The part of a trace of so many moments that a window shows.
 fn part_of(window: Window, span: u64) -> Part
-    ensures { result ≡ part_of window span }
+    ensures value { result ≡ part_of window span }
+    ensures order { result.from ≤ result.to }
+    ensures within { result.to ≤ span }
 {
     let from = window.from.min(span);
     let to = window.to.min(span).max(from);

@@ -25,7 +25,8 @@ opening_text page =
     codes "<svg xmlns=\"http://www.w3.org/2000/svg\" width=\"1240\" height=\""
     ++ canonical_number (bottom page + 64)
     ++ codes "\" viewBox=\"0 0 1240 " ++ canonical_number (bottom page + 64)
-    ++ codes "\" font-family=\"DejaVu Sans,Arial,sans-serif\" font-size=\"11\">\n<rect width=\"1240\" height=\""
+    ++ codes "\" font-family=\"DejaVu Sans,Arial,sans-serif\" font-size=\"11\">\n"
+    ++ codes "<rect width=\"1240\" height=\""
     ++ canonical_number (bottom page + 64)
     ++ codes "\" fill=\"#fff\"/>\n<style>" ++ style_text ++ codes "</style>\n"
 
@@ -121,7 +122,8 @@ unfoldable pub task_text : SceneData → ℕ → ℕ → ℕ → List ℕ
 task_text scene top k task =
     codes "<rect class=\"c" ++ canonical_number (task % 24)
     ++ codes "\" x=\"4\" y=\"" ++ canonical_number (top + 16 * k + 3)
-    ++ codes "\" width=\"10\" height=\"10\"/><text x=\"20\" y=\"" ++ canonical_number (top + 16 * k + 12)
+    ++ codes "\" width=\"10\" height=\"10\"/><text x=\"20\" y=\""
+    ++ canonical_number (top + 16 * k + 12)
     ++ codes "\">" ++ name_at scene task
     ++ codes "</text><path d=\"M200," ++ canonical_number (top + 16 * k + 16)
     ++ codes " h1000\" stroke=\"#eee\"/>\n"

@@ -1,6 +1,7 @@
--- The lanes of processors. A bar is a rectangle in the moments of the part, eight high for each lane,
--- with a title: the task, the processor, the moments, and the clock of the first one.
-use Rattle.std.specs.Prelude.{ℕ, ◌+◌, ◌-◌, ◌*◌, ◌/◌, Bool, false, nat_le, nat_lt, List, [], ◌++◌}
+-- The lanes of processors. A bar is a rectangle in the moments of the part, eight high for each
+-- lane, with a title: the task, the processor, the moments, and the clock of the first one.
+use Rattle.std.specs.Prelude.{ℕ, ◌+◌, ◌-◌, ◌*◌, ◌/◌, Bool, false, nat_le, nat_lt, List, []}
+use Rattle.std.specs.Prelude.{◌++◌}
 use Rattle.std.specs.Prelude.{length, codes, Option, Some, None, if◌then◌else◌}
 use Rattle.std.specs.List.{flat_map}
 use Rattle.affinity_mask.specs.Number.{canonical_number}
@@ -61,7 +62,8 @@ is_narrow scene bar = nat_lt (across scene.part bar.to)
 -- the name of a bar in its middle
 unfoldable pub middle_text : SceneData → ℕ → ℕ → Bar → List ℕ
 middle_text scene top p bar =
-    codes "<text x=\"" ++ canonical_number ((across scene.part bar.from + across scene.part bar.to) / 2)
+    codes "<text x=\"" ++ canonical_number
+    ((across scene.part bar.from + across scene.part bar.to) / 2)
     ++ codes "\" y=\"" ++ canonical_number (top + 24 * lane_of scene p + 16)
     ++ codes "\" text-anchor=\"middle\" pointer-events=\"none\">" ++ name_at scene bar.thread
     ++ codes "</text>\n"

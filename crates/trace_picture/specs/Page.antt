@@ -1,5 +1,5 @@
--- Where things stand on the page, from above: the lanes of the trace, those of strong scheduling, and
--- the rows, each below the one before it.
+-- Where things stand on the page, from above: the lanes of the trace, those of strong scheduling,
+-- and the rows, each below the one before it.
 use Rattle.std.specs.Prelude.{ℕ, ◌+◌, ◌*◌}
 use Rattle.trace_picture.specs.declared.page.Page.{Page}
 

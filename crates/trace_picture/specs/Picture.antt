@@ -1,6 +1,6 @@
--- The picture of bars: the lanes of the trace, those of strong scheduling, and the rows, each a group
--- whose view box has the moments of the part, so that nothing is rounded, and what stands around
--- them.
+-- The picture of bars: the lanes of the trace, those of strong scheduling, and the rows, each a
+-- group whose view box has the moments of the part, so that nothing is rounded, and what stands
+-- around them.
 use Rattle.std.specs.Prelude.{◌≡◌, ℕ, ◌+◌, ◌*◌, ◌≤◌, List, ◌++◌, length, codes, if◌then◌else◌}
 use Rattle.std.specs.List.{flat_map, list_any}
 use Rattle.trace_bars.specs.declared.bars.Bars.{Bars}

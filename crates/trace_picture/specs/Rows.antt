@@ -1,5 +1,6 @@
 -- The bars of the rows: at which moments a task ran, was lost, and waited rightly.
-use Rattle.std.specs.Prelude.{ℕ, ◌+◌, ◌-◌, ◌*◌, ◌%◌, ◌==◌, Bool, List, [], ◌++◌, codes, position, Option}
+use Rattle.std.specs.Prelude.{ℕ, ◌+◌, ◌-◌, ◌*◌, ◌%◌, ◌==◌, Bool, List, [], ◌++◌, codes, position}
+use Rattle.std.specs.Prelude.{Option}
 use Rattle.std.specs.Prelude.{Some, None}
 use Rattle.affinity_mask.specs.Number.{canonical_number}
 use Rattle.trace_bars.specs.declared.mark.Bar.{Bar}

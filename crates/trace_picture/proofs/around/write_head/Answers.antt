@@ -1,4 +1,4 @@
-use Rattle.std.proofs.Common.{◌≡◌, ◌++◌, append_assoc}
+use Rattle.std.proofs.Common.{append_assoc}
 use Rattle.trace_picture.specs.Around.{group_head}
 use Rattle.trace_picture.proofs.around.write_head.Goals as goal
 

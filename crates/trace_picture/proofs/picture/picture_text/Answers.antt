@@ -1,5 +1,5 @@
 use Rattle.std.proofs.Common.{◌≡◌, ℕ, List, subst}
-use Rattle.trace_picture.specs.Picture.{drawn_text, listed_in, page_for, text_for}
+use Rattle.trace_picture.specs.Picture.{drawn_text, listed_in, text_for}
 use Rattle.trace_picture.specs.Scene.{scene_of}
 use Rattle.trace_picture.proofs.Pieces.{parts_joined}
 use Rattle.trace_picture.proofs.picture.picture_text.Goals as goal
@@ -18,8 +18,13 @@ returns c =
     (rw (c.page_for-page.ensures, c.deref-4.ensures.value, c.processors-processors.ensures.value) at c.in_ok-write_lanes.ensures)
     (rw (c.strong_top.ensures.value, c.page_for-page.ensures, c.deref-5.ensures.value, c.processors-processors.ensures.value) at
     c.in_ok-write_lanes-2.ensures)
-    (rw (c.page_for-page.ensures, c.deref-2.ensures.value, c.deref-6.ensures.value, c.deref-7.ensures.value,
-    c.processors-processors.ensures.value) at c.in_ok-write_rows_group.ensures)
+    (rw (
+      c.page_for-page.ensures,
+      c.deref-2.ensures.value,
+      c.deref-6.ensures.value,
+      c.deref-7.ensures.value,
+      c.processors-processors.ensures.value,
+    ) at c.in_ok-write_rows_group.ensures)
     (rw (c.page_for-page.ensures, c.deref-2.ensures.value, c.processors-processors.ensures.value) at c.in_ok-write_legend.ensures)
     c.in_ok-put.ensures in
     record {
