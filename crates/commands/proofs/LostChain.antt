@@ -11,13 +11,14 @@ use Rattle.kernel_trace.specs.declared.loss_text.StepRow.{StepRow}
 use Rattle.task_set.specs.TaskSet.{SetData, IsTaskSet}
 use Rattle.strong_apa.specs.State.{State, IsState, task_count, task_on}
 use Rattle.strong_apa.proofs.Linked.{linked_number}
-use Rattle.trace_losses.specs.Book.{of_task}
+use Rattle.trace_losses.specs.Book.{nothing_seen, of_task}
 use Rattle.trace_losses.specs.ChainAt.{IsChainAt, steps_of}
 use Rattle.trace_losses.specs.Losses.{AreLosses}
 use Rattle.trace_losses.specs.Moments.{is_lost, losses}
 use Rattle.trace_losses.specs.Passages.{ready_after_passages}
 use Rattle.trace_losses.specs.declared.chains.ChainStep.{ChainStep}
 use Rattle.trace_losses.specs.declared.loss.Loss.{Loss}
+use Rattle.trace_losses.specs.declared.seen.Seen.{Seen}
 use Rattle.trace_losses.specs.declared.tally.Stretch.{Stretch}
 use Rattle.trace_losses.proofs.OneChains.{chains_are_unique}
 use Rattle.trace_losses.proofs.SeenMoments.{count_of}
@@ -82,7 +83,7 @@ begin_within set threads passages units found beside are t some = elim (cases_lt
       let is = are.losses.each t loss (slice_get-get_or found t no_loss below) in
       let in_all = begins (losses (of_task t are.moments)) loss.longest.first loss.longest.count some is.longest.each in
       let one = length-map (of_task t are.moments) is_lost in
-      let two = length-map are.moments (λ seen. get_or seen t _) in
+      let two = length-map are.moments (λ (seen : List Seen). get_or seen t nothing_seen) in
       let all = are.are.all in
       let span = are.span in
       omega (arith, in_all, one, two, all, span))
