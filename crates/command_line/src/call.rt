@@ -17,8 +17,8 @@ use crate::watch::watched_text;
 use crate::words::{Command, command_of};
 use commands::{
     MAX_BYTES, MAX_TRACE_BYTES, Status, checked_text, chrome_trace, drawn_text, imported_jobs_text,
-    imported_text, jobs_schedule_text, jobs_text, lost_text, made_text, nested_text,
-    show_text, weak_jobs_text, weak_text,
+    imported_text, jobs_schedule_text, jobs_text, lost_text, made_text, nested_text, show_text,
+    weak_jobs_text, weak_text,
 };
 use processor_seat::Gate;
 use shift_io::{ReadAllFault, Sink, Source, put_all, read_all};
