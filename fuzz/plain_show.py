@@ -1,7 +1,7 @@
 """Pictures of traces, written plainly from docs/FORMATS.md, as a second opinion on `show`."""
 
 from plain_scheduler import State, step
-from plain_traces import MOST_TRACE_BYTES, read_trace, runs_after, stamp_at
+from plain_traces import MOST_TRACE_BYTES, places_unlisted, read_trace, runs_after, stamp_at
 from plain_texts import Fault
 
 MOST_ROWS = 64
@@ -15,7 +15,8 @@ COLOURS = ('#a6cee3 #fdbf6f #b2df8a #a5ebe3 #cab2d6 #ffff99 #8dd3c7 #f4cae4 #d9c
 
 def sights(trace, events):
     """The stretches of the span without a line in them: their first and last moment, and of each task what is seen of it then: the
-    processor that it runs on, the one that strong scheduling links it to, and whether it is ready."""
+    processor that it runs on, the one that strong scheduling links it to, and whether it is ready; after the tasks the same of the
+    threads that are told apart."""
     state = State(trace.processors, [(priority, frozenset(mask)) for priority, mask in trace.tasks])
     lines = events.lines
     for at, (moment, _processor, _tasks, changed) in enumerate(lines[:-1]):
@@ -24,7 +25,8 @@ def sights(trace, events):
         if lines[at + 1][0] > moment:
             runs = {task: min(processors) for task, processors in runs_after(lines, at + 1).items()}
             links = {task: processor for processor, task in state.on.items()}
-            yield moment, lines[at + 1][0], [(runs.get(t), links.get(t), t in state.ready) for t in range(len(trace.names))]
+            others = [(min(places_unlisted(events, at + 1, thread), default=None), None, False) for thread in trace.unlisted]
+            yield moment, lines[at + 1][0], [(runs.get(t), links.get(t), t in state.ready) for t in range(len(trace.names))] + others
 
 
 def became(sight):
@@ -35,7 +37,7 @@ def became(sight):
 def bars_of(trace, events, part, mark_of):
     """The longest stretches of the part in which one mark of a task is seen: task, mark, and their two ends, by the second end."""
     found = []
-    for task in range(len(trace.names)):
+    for task in range(len(trace.names) + len(trace.unlisted)):
         current = None
         for first, last, seen in sights(trace, events):
             first, last = max(first, part[0]), min(last, part[1])
@@ -71,7 +73,10 @@ class Sheet:
         self.bottom = self.rows_top + ROW * len(self.listed)
 
     def name(self, task):
-        return self.trace.names[task].decode()
+        return self.trace.names[task].decode() if task < len(self.trace.names) else 'not listed'
+
+    def colour(self, task):
+        return task % 24 if task < len(self.trace.names) else 24
 
     def clock(self, moment):
         return stamp_at(self.events, moment)
@@ -108,7 +113,7 @@ def opening(sheet):
     style = ''.join(f'.c{k}{{fill:{colour}}}' for k, colour in enumerate(COLOURS))
     return (f'<svg xmlns="http://www.w3.org/2000/svg" width="1240" height="{high}" viewBox="0 0 1240 {high}" '
             'font-family="DejaVu Sans,Arial,sans-serif" font-size="11">\n'
-            f'<rect width="1240" height="{high}" fill="#fff"/>\n<style>{style}.lost{{fill:#d9534f}}.waited{{fill:#ddd}}</style>\n')
+            f'<rect width="1240" height="{high}" fill="#fff"/>\n<style>{style}.c24{{fill:#bbb}}.lost{{fill:#d9534f}}.waited{{fill:#ddd}}</style>\n')
 
 
 def axis(sheet):
@@ -140,7 +145,7 @@ def extent(sheet, begin, end):
 
 
 def lane_bar(sheet, task, p, begin, end):
-    return (f'<rect class="c{task % 24}" x="{begin - sheet.part[0]}" y="{8 * min(p, sheet.trace.processors) + 1}" width="{end - begin}" '
+    return (f'<rect class="c{sheet.colour(task)}" x="{begin - sheet.part[0]}" y="{8 * min(p, sheet.trace.processors) + 1}" width="{end - begin}" '
             f'height="6"><title>{sheet.name(task)} on cpu {p}{extent(sheet, begin, end)}')
 
 
@@ -163,7 +168,7 @@ def legend(sheet):
     boxes = [''.join(f'<rect class="c{k}" x="{200 + 8 * k}" y="{top}" width="8" height="9"/>' for k in range(3)),
              *(f'<rect class="{word}" x="{x}" y="{top}" width="24" height="9"/>' for x, word in [(262, 'lost'), (522, 'waited')])]
     said = ''.join(box + f'<text x="{x}" y="{y}" {GREY}>{word}</text>' for box, (x, word) in zip(boxes, words))
-    return said + f'<text x="770" y="{y}" {GREY}>white in a lane: idle, or a thread that is no task</text>\n'
+    return said + f'<text x="770" y="{y}" {GREY}>grey in a lane: not listed; white: idle, or not of real time</text>\n'
 
 
 def answer_to_show(data, window=None):

@@ -395,20 +395,24 @@ def jumps_of(trace, events):
     return count
 
 
-def runs_unlisted(events, at, thread):
-    """Whether a thread that is no task runs somewhere between the line before `at` and that one: each switch of it says where, and a
-    switch of that processor to or from others says that it is not there."""
-    switches = [(processor, threads) for _moment, processor, threads in events.switches]
-    for of in {processor for processor, _threads in switches if processor is not None}:
+def places_unlisted(events, at, thread):
+    """The processors on which a thread that is no task runs between the line before `at` and that one: each switch of it says where, and
+    a switch of that processor to or from others says that it is not there."""
+    switches, found = [(processor, threads) for _moment, processor, threads in events.switches], []
+    for of in sorted({processor for processor, _threads in switches if processor is not None}):
         about = [(here, threads) for here, threads in switches[at:] if here is not None and (here == of or thread in threads)]
         if about:
             if about[0][0] == of and about[0][1][0] == thread:
-                return True
+                found.append(of)
             continue
         about = [(here, threads) for here, threads in switches if here is not None and (here == of or thread in threads)]
         if about and about[-1][0] == of and about[-1][1][1] == thread:
-            return True
-    return False
+            found.append(of)
+    return found
+
+
+def runs_unlisted(events, at, thread):
+    return bool(places_unlisted(events, at, thread))
 
 
 def beside_of(trace, events):

@@ -179,7 +179,7 @@ legend_of low x class meaning =
 unfoldable pub legend_of_white : ℕ → List ℕ
 legend_of_white low =
     codes "<text x=\"770\" y=\"" ++ canonical_number (low + 50)
-    ++ codes "\" fill=\"#666\">white in a lane: idle, or a thread that is no task</text>\n"
+    ++ codes "\" fill=\"#666\">grey in a lane: not listed; white: idle, or not of real time</text>\n"
 
 unfoldable pub legend_text : Page → List ℕ
 legend_text page =

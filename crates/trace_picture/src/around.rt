@@ -446,7 +446,7 @@ fn write_legend_of_white(text: &mut Vec<u8>, scene: &Scene, bottom: u32) -> Resu
 {
     let y = bottom + 50;
     let line = format!(in scene.alloc;
-        "<text x=\"770\" y=\"{y}\" fill=\"#666\">white in a lane: idle, or a thread that is no task</text>\n"
+        "<text x=\"770\" y=\"{y}\" fill=\"#666\">grey in a lane: not listed; white: idle, or not of real time</text>\n"
     )?;
     put(text, &line)?;
     Ok(())
